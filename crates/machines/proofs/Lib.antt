@@ -1,0 +1,2 @@
+pub mod DepthWords
+pub mod NamesWords

@@ -1,0 +1,4 @@
+pub mod Letters
+pub mod Automata
+pub mod Reading
+pub mod Following
