@@ -68,7 +68,11 @@ impl<A: Machine, B: Machine, J: Join> Pair<A, B, J> {
         ensures machines { λ r. ⌜ (r .first ≡ first) × (r .second ≡ second) × (r .join ≡ join) ⌝ }
         ensures words { λ _. ⌜ Accepts-joined (J·Join .joined) (A·Machine .meaning first) (B·Machine .meaning second) ⌝ }
     {
-        Pair { first, second, join }
+        Pair {
+            first,
+            second,
+            join,
+        }
     }
 }
 
@@ -140,25 +144,41 @@ pub impl<A: Machine, B: Machine, J: Join> Machine for Pair<A, B, J> as PairMachi
     }
 
     fn internal(&self, state: (A::State, B::State), name: u8) -> (A::State, B::State) {
-        (self.first.internal(state.0, name), self.second.internal(state.1, name))
+        (
+            self.first.internal(state.0, name),
+            self.second.internal(state.1, name),
+        )
     }
 
     fn call(&self, state: (A::State, B::State), name: u8) -> (A::State, B::State) {
-        (self.first.call(state.0, name), self.second.call(state.1, name))
+        (
+            self.first.call(state.0, name),
+            self.second.call(state.1, name),
+        )
     }
 
-    fn ret(&self, state: (A::State, B::State), before: (A::State, B::State), opened: u8, name: u8) -> (A::State, B::State) {
+    fn ret(
+        &self,
+        state: (A::State, B::State),
+        before: (A::State, B::State),
+        opened: u8,
+        name: u8,
+    ) -> (A::State, B::State) {
         let first = self.first.ret(state.0, before.0, opened, name);
         let second = self.second.ret(state.1, before.1, opened, name);
         (first, second)
     }
 
     fn pending(&self, state: (A::State, B::State), name: u8) -> (A::State, B::State) {
-        (self.first.pending(state.0, name), self.second.pending(state.1, name))
+        (
+            self.first.pending(state.0, name),
+            self.second.pending(state.1, name),
+        )
     }
 
     fn accepts(&self, state: (A::State, B::State)) -> bool {
-        self.join.join(self.first.accepts(state.0), self.second.accepts(state.1))
+        self.join
+            .join(self.first.accepts(state.0), self.second.accepts(state.1))
     }
 
     fn same(&self, left: (A::State, B::State), right: (A::State, B::State)) -> bool {

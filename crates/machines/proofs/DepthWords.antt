@@ -38,9 +38,9 @@ module _ (k : ℕ) where
   -- the first letter takes n open calls to m
   at-most-more : (n m : ℕ) (l : Letter) (w : List Letter) → ((v : List Letter) → opens n (l ∷ v) ≡ opens m v) → At-most n (l ∷ w) ↔ ((n ≤ k) × At-most m w)
   at-most-more n m l w step = (
-      λ h. (subst (λ x. x ≤ k) (at-most-none n) (h 0), λ i. subst (λ x. x ≤ k) (step (take i w)) (h (suc i))),
-      λ h. elim [ zero ↦ subst (λ x. x ≤ k) (sym (at-most-none n)) (h .0) | suc i ↦ subst (λ x. x ≤ k) (sym (step (take i w))) (h .1 i) ]
-    )
+    λ h. (subst (λ x. x ≤ k) (at-most-none n) (h 0), λ i. subst (λ x. x ≤ k) (step (take i w)) (h (suc i))),
+    λ h. elim [ zero ↦ subst (λ x. x ≤ k) (sym (at-most-none n)) (h .0) | suc i ↦ subst (λ x. x ≤ k) (sym (step (take i w))) (h .1 i) ],
+  )
 
   fair-open : (s : DepthState) (ms : List (Mark DepthState)) → Fair s ms → s .most ≤ k → length ms ≤ k
   fair-open s ms fair h = let d = fair .depth in let m = fair .most in omega arith
@@ -53,24 +53,23 @@ module _ (k : ℕ) where
   unfolding read-from
   stays-more s t ms ns l w fair most step leads later =
       let A = depth-automaton k in
-      let e : read-from A (read-letter A (record { state = s; marks = ms }) l) w .state .most ≡ read-from A (record { state = t; marks = ns }) w .state .most = ap (λ c. read-from A c w .state .most) leads in
-      (
+      let e : read-from A (read-letter A (record { state = s; marks = ms }) l) w .state .most ≡ read-from A (record { state = t; marks = ns }) w .state .most = ap (λ c. read-from A c w .state .most) leads in (
         λ h.
-          let ahead = later .0 (subst (λ n. n ≤ k) e h) in
-          let below = most .0 (ahead .0) in
-          (below .0, at-most-more (length ms) (length ns) l w step .1 (fair-open s ms fair (below .0), ahead .1)),
+            let ahead = later .0 (subst (λ n. n ≤ k) e h) in
+            let below = most .0 (ahead .0) in
+            (below .0, at-most-more (length ms) (length ns) l w step .1 (fair-open s ms fair (below .0), ahead .1)),
         λ h.
-          let ahead = at-most-more (length ms) (length ns) l w step .0 (h .1) .1 in
-          let open-now = subst (λ n. n ≤ k) (at-most-none (length ns)) (ahead 0) in
-          subst (λ n. n ≤ k) (sym e) (later .1 (most .1 (h .0, open-now), ahead))
+            let ahead = at-most-more (length ms) (length ns) l w step .0 (h .1) .1 in
+            let open-now = subst (λ n. n ≤ k) (at-most-none (length ns)) (ahead 0) in
+            subst (λ n. n ≤ k) (sym e) (later .1 (most .1 (h .0, open-now), ahead)),
       )
 
   stays : (s : DepthState) (ms : List (Mark DepthState)) → Fair s ms → (w : List Letter) → Stays s ms w
   unfolding read-from
   stays s ms fair [] = (
-      λ h. (h, elim [ zero ↦ subst (λ n. n ≤ k) (sym (at-most-none (length ms))) (fair-open s ms fair h) | suc i ↦ subst (λ n. n ≤ k) (sym (at-most-none (length ms))) (fair-open s ms fair h) ]),
-      λ h. h .0
-    )
+    λ h. (h, elim [ zero ↦ subst (λ n. n ≤ k) (sym (at-most-none (length ms))) (fair-open s ms fair h) | suc i ↦ subst (λ n. n ≤ k) (sym (at-most-none (length ms))) (fair-open s ms fair h) ]),
+    λ h. h .0,
+  )
   stays s ms fair (Call a ∷ w) =
       let A = depth-automaton k in
       let d = fair .depth in
@@ -106,8 +105,7 @@ module _ (k : ℕ) where
   pub accepts-within : Accepts-within k
   accepts-within w =
       let s = at-depth 0 0 in
-      let all = stays s [] (record { depth = omega arith; most = omega arith; marks = tt }) w in
-      (
+      let all = stays s [] (record { depth = omega arith; most = omega arith; marks = tt }) w in (
         λ h i. let n = all .0 (leb-true (read (depth-automaton k) w .state .most) k h) .1 i in omega arith,
-        λ h. le-leb (read (depth-automaton k) w .state .most) k (all .1 (omega arith, λ i. let n = h i in omega arith))
+        λ h. le-leb (read (depth-automaton k) w .state .most) k (all .1 (omega arith, λ i. let n = h i in omega arith)),
       )

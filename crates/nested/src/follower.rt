@@ -10,9 +10,8 @@ use crate::letter::Letter;
 use crate::machine::Machine;
 use crate::mark::Mark;
 use crate::refusal::Refusal;
+use crate::row::MOST_PLACES;
 use crate::standing::Standing;
-
-const MOST_PLACES: usize = 4096;
 
 /// Follows a record with a machine. The marks of the open calls lie in a row that the caller lends to each call.
 #[derive(Drop)]

@@ -4,5 +4,6 @@ pub mod letter;
 pub mod machine;
 pub mod mark;
 pub mod refusal;
+pub mod row;
 pub mod standing;
 pub mod word;

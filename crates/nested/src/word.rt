@@ -15,7 +15,11 @@ use crate::standing::Stop;
 ///
 /// Where every letter is read, the standing accepts exactly if the machine accepts the word, and its open calls are the calls of the
 /// word that are never closed. Otherwise it answers the first letter that is refused, and why; the letters before it were read.
-pub fn follow_word<M: Machine>(machine: &M, codes: &[u8], marks: &mut [Mark<M::State>]) -> Result<Standing, Stop>
+pub fn follow_word<M: Machine>(
+    machine: &M,
+    codes: &[u8],
+    marks: &mut [Mark<M::State>],
+) -> Result<Standing, Stop>
     ensures answer { λ r. ⌜ Cases r (Read-whole (M·Machine .meaning (now (machine .entry))) (length (now (marks .entry))) (now (codes .entry))) (Stopped (length (now (marks .entry))) (now (codes .entry))) ⌝ }
     ensures marks { λ r. ⌜ now (marks .exit) ≡ marks-written (M·Machine .meaning (now (machine .entry))) (begun (M·Machine .meaning (now (machine .entry)))) (letters (take (letters-read (now (codes .entry)) r) (now (codes .entry)))) (now (marks .entry)) ⌝ }
 {

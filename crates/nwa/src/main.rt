@@ -2,10 +2,15 @@
 //
 // With words it answers one command, and ends with status 1 where that is refused or not understood. With none it reads commands
 // from standard input, a line each, and answers them all.
+mod check;
 mod command;
+mod files;
 mod follow;
+mod letters;
+mod names;
 mod shape;
 mod words;
+mod write;
 
 use command::answer;
 use std::env;

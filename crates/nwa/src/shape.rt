@@ -17,8 +17,11 @@ use machines::names::Names;
 use machines::names::NamesMachine;
 use nested::machine::Machine;
 
-const MACHINE: &str = "a machine: names, depth K, not MACHINE, both MACHINE MACHINE or either MACHINE MACHINE";
+const MACHINE: &str =
+    "a machine: names, depth K, not MACHINE, both MACHINE MACHINE or either MACHINE MACHINE";
+
 const OPERAND: &str = "a machine without a layer of its own but not: names, depth K or not MACHINE";
+
 const DEPTH: &str = "a number after depth";
 
 /// A machine that stands on no other.
@@ -57,7 +60,11 @@ pub trait Task {
     fn run<M: Machine + Drop>(self, machine: M) -> Self::Answer;
 }
 
-fn parse_simple(keyword: &str, words: &mut Words, what: &'static str) -> Result<Simple, ParseError> {
+fn parse_simple(
+    keyword: &str,
+    words: &mut Words,
+    what: &'static str,
+) -> Result<Simple, ParseError> {
     match keyword {
         "names" => Ok(Simple::Names),
         "depth" => Ok(Simple::Depth(byte(words.expect(DEPTH)?, DEPTH)?)),
@@ -157,8 +164,22 @@ impl<A: Machine + Drop, J: Join + Drop, T: Task> Task for PairAfter<A, J, T> as 
 
 fn with_two<T: Task>(layer: Layer, first: Literal, second: Literal, task: T) -> T::Answer {
     match layer {
-        Layer::Both => with_literal(first, PairWith { second, join: And, task }),
-        Layer::Either => with_literal(first, PairWith { second, join: Or, task }),
+        Layer::Both => with_literal(
+            first,
+            PairWith {
+                second,
+                join: And,
+                task,
+            },
+        ),
+        Layer::Either => with_literal(
+            first,
+            PairWith {
+                second,
+                join: Or,
+                task,
+            },
+        ),
     }
 }
 

@@ -68,6 +68,14 @@ impl<'a> Words<'a> {
             None => Err(ParseError::Expected(what)),
         }
     }
+
+    /// That no word is left.
+    pub fn end(&mut self, what: &'static str) -> Result<(), ParseError> {
+        match self.next() {
+            Some(_) => Err(ParseError::Expected(what)),
+            None => Ok(()),
+        }
+    }
 }
 
 /// The byte that a word writes out; a larger number counts as 255.

@@ -10,7 +10,7 @@ use Rattle.nested.proofs.word.follow_word.Needs as need
 pub loop-letter-holds : need.loop-letter-holds
 loop-letter-holds g c = (
   c .begin-follower .ensures .machine,
-  followed-none (g .M·Machine .meaning (c .args .machine .now)) (c .args .codes .now) (c .args .marks .now) (c .begin-follower .result .at) (c .begin-follower .ensures .at)
+  followed-none (g .M·Machine .meaning (c .args .machine .now)) (c .args .codes .now) (c .args .marks .now) (c .begin-follower .result .at) (c .begin-follower .ensures .at),
 )
 
 pub returns-in-Err : need.returns-in-Err
@@ -31,10 +31,9 @@ loop-letter-again g c =
     let A = g .M·Machine .meaning (c .args .machine .now) in
     let f = c .loop-letter .inv .1 in
     let code = getD (c .args .codes .now) (c .loop-letter .letter) 0 in
-    let reads = subst (λ m. Reads (g .M·Machine .meaning m) (letter-of code) (c .loop-letter .follower .at) (c .loop-letter .marks) (c .follow .last .self .at) (c .follow .last .marks)) (c .loop-letter .inv .0) (c .in-rest .ensures tt .reads) in
-    (
+    let reads = subst (λ m. Reads (g .M·Machine .meaning m) (letter-of code) (c .loop-letter .follower .at) (c .loop-letter .marks) (c .follow .last .self .at) (c .follow .last .marks)) (c .loop-letter .inv .0) (c .in-rest .ensures tt .reads) in (
       c .in-rest .ensures tt .machine ∙ c .loop-letter .inv .0,
-      followed-more A (c .args .codes .now) (c .args .marks .now) (c .loop-letter .letter) (c .loop-letter .follower .at) (c .loop-letter .marks) f (c .follow .last .self .at) (c .follow .last .marks) (c .loop-letter-test .taken) (c .loop-letter .kept .marks) (c .in-rest .ensures tt .answer) reads
+      followed-more A (c .args .codes .now) (c .args .marks .now) (c .loop-letter .letter) (c .loop-letter .follower .at) (c .loop-letter .marks) f (c .follow .last .self .at) (c .follow .last .marks) (c .loop-letter-test .taken) (c .loop-letter .kept .marks) (c .in-rest .ensures tt .answer) reads,
     )
 
 pub returns : need.returns

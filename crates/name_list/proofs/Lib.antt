@@ -1,0 +1,5 @@
+pub mod Bytes
+pub mod Held
+pub mod Judging
+pub mod Loading
+pub mod Numbers

@@ -1,0 +1,5 @@
+pub mod Checking
+pub mod Reading
+pub mod RoundTrips
+pub mod Spelling
+pub mod Writing
