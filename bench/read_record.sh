@@ -39,7 +39,7 @@ fields record | bytes >"$out/record"
 : >"$out/ours.ns"
 : >"$out/rust.ns"
 for _ in $(seq "$runs"); do
-    target/bin/bench_read "$out/names" "$out/record" "$rounds" >"$out/ours.line" 2>>"$out/ours.ns"
+    "$ours" "$out/names" "$out/record" "$rounds" >"$out/ours.line" 2>>"$out/ours.ns"
     "$out/read_record" "$out/names" "$out/record" "$rounds" >"$out/rust.line" 2>>"$out/rust.ns"
     cmp "$out/ours.line" "$out/rust.line"
 done

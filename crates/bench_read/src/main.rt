@@ -2,6 +2,8 @@
 //
 // It writes the letters that a round reads and a checksum to standard output, and the nanoseconds that all rounds took to standard
 // error. Where a word is missing or wrong, or a file is refused, it ends with status 1.
+#![tactic(auto)]
+
 use anyhow::anyhow;
 use fields::fault::Fault;
 use name_list::list::NameList;

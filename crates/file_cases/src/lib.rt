@@ -1,4 +1,6 @@
 // Files of every fault. The tests try what no contract says: that the definitions of the formats say what people meant.
+#![tactic(auto)]
+
 #[cfg(test)]
 mod tests {
     use fields::fault::{At, Fault, File};

@@ -1,4 +1,6 @@
 // Layers: machines made of machines. A stack of layers of any height is a machine again.
+#![tactic(auto)]
+
 ghost use Rattle.std.specs.Prelude.{◌≡◌, Bool, ◌&&◌, ◌||◌};
 ghost use Rattle.layers.specs.Layers.{AcceptsJoined, AcceptsOthers, not_automaton, same_pair, side_by_side};
 ghost use Rattle.std.proofs.Common.{rules};

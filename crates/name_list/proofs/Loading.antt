@@ -1,13 +1,13 @@
 -- Reading a name list field by field.
-use Rattle.std.proofs.Common.{◌≡◌, ℕ, ◌+◌, ◌-◌, ◌<◌, ◌≤◌, true, not, ltb, List, [], ◌∷◌, ◌++◌, map, length, drop, is_some, Some, None, Option, sym, refl, ap, ◌∙◌, subst, arith}
+use Rattle.std.proofs.Common.{◌≡◌, ℕ, ◌<◌, ◌≤◌, true, not, ltb, List, [], ◌∷◌, ◌++◌, map, length, drop, is_some, Some, None, sym, refl, ap, ◌∙◌, subst, arith}
 use Rattle.std.proofs.lemmas.List.{append_assoc, length-map, length_push, map-append}
 use Rattle.std.proofs.lemmas.Bool.{and_from, cases_Bool, cond-false, cond-true, le-ltb, lt-ltb}
 use Rattle.std.proofs.lemmas.Bool.Decides.{nat_tests}
 use Rattle.fields.proofs.Fronts.{Front, front_cut, front_ends, front_more, front_none, front_stops}
 use Rattle.fields.proofs.Telling.{some_number}
 use Rattle.fields.specs.Faults.{told}
-use Rattle.fields.specs.Fields.{Cut, Piece, file_of, written}
-use Rattle.fields.specs.Outcomes.{InOrder, Outcome}
+use Rattle.fields.specs.Fields.{Cut, Piece, file_of}
+use Rattle.fields.specs.Outcomes.{InOrder}
 use Rattle.fields.specs.Parts.{Stands, part_of, piece_of}
 use Rattle.fields.specs.declared.fault.Fault.{Fault}
 use Rattle.fields.specs.declared.field.Field.{Field}

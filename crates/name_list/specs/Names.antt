@@ -6,7 +6,7 @@ use Rattle.std.specs.declared.alloc.Global.{Global}
 use Rattle.fields.specs.Faults.{fault_in, told}
 use Rattle.fields.specs.declared.fault.Told.{Told}
 use Rattle.fields.specs.Fields.{Piece, file_of}
-use Rattle.fields.specs.Outcomes.{Check, Fits, Format, Outcome, first_fault}
+use Rattle.fields.specs.Outcomes.{Fits, Format, Outcome, first_fault}
 use Rattle.fields.specs.declared.fault.Fault.{Fault}
 use Rattle.fields.specs.declared.fault.Fault.TheVariants.{Memory}
 use Rattle.fields.specs.declared.fault.File.TheVariants.{Names}

@@ -2,7 +2,7 @@
 use Rattle.std.proofs.Common.{◌≡◌, ℕ, ◌+◌, ◌-◌, ◌%◌, ◌<◌, ◌≤◌, List, [], ◌∷◌, ◌++◌, reverse, length, get_or, take, set, sym, refl, ap, ◌∙◌, arith}
 use Rattle.std.proofs.lemmas.List.{reverse-append, take_more, take_more_set, length-reverse, length-take-le}
 use Rattle.nested.specs.Automata.{Automaton}
-use Rattle.nested.specs.Following.{stands, mark_written, Reads}
+use Rattle.nested.specs.Following.{Reads}
 use Rattle.nested.specs.Reading
 use Rattle.nested.specs.Reading.{Config, read_letter}
 use Rattle.nested.specs.declared.follower.Position.{Position}

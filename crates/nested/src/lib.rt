@@ -1,4 +1,6 @@
 // Nested words: their letters, machines that read them, and a follower that keeps its marks in memory lent by the caller.
+#![tactic(auto)]
+
 pub mod follower;
 pub mod letter;
 pub mod machine;

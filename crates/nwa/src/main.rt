@@ -2,6 +2,8 @@
 //
 // With words it answers one command, and ends with status 1 where that is refused or not understood. With none it reads commands
 // from standard input, a line each, and answers them all.
+#![tactic(auto)]
+
 mod check;
 mod command;
 mod files;
@@ -12,9 +14,9 @@ mod shape;
 mod words;
 mod write;
 
-use anyhow::anyhow;
 use command::answer;
 use std::io::{BufRead, BufReader};
+use std::process::ExitCode;
 use std::{env, io};
 
 fn answer_line(line: &str, rt: &HostRuntime) -> io::Result<()> {
@@ -34,23 +36,24 @@ fn answer_lines(rt: &HostRuntime) -> io::Result<()> {
     Ok(())
 }
 
-fn run(rt: &HostRuntime) -> anyhow::Result<()> {
+// False where the command on the command line is refused or not understood.
+fn run(rt: &HostRuntime) -> io::Result<bool> {
     let args: Vec<String> = env::args(rt)?.skip(1).collect(rt.alloc())?;
     if args.is_empty() {
         answer_lines(rt)?;
-        return Ok(());
+        return Ok(true);
     }
     let mut words = Vec::new(rt.alloc());
     for arg in args.iter() {
         words.push(arg.as_str())?;
     }
-    if answer(&words, rt)? {
-        Ok(())
-    } else {
-        Err(anyhow!("not answered"))
-    }
+    answer(&words, rt)
 }
 
-fn main(rt: HostRuntime) -> anyhow::Result<()> {
-    run(&rt)
+fn main(rt: HostRuntime) -> io::Result<ExitCode> {
+    if run(&rt)? {
+        Ok(ExitCode::SUCCESS)
+    } else {
+        Ok(ExitCode::FAILURE)
+    }
 }

@@ -1,5 +1,5 @@
 -- Reading a record field by field.
-use Rattle.std.proofs.Common.{◌≡◌, ℕ, ◌+◌, ◌<◌, ◌≤◌, Bool, true, false, ltb, leb, List, [], ◌∷◌, ◌++◌, map, length, get_or, take, drop, set, is_some, IfOk, Some, None, Ok, Err, MatchBool, Option, Result, sym, refl, ap, ◌∙◌, subst, ap₂, subst₂, arith, MatchResult}
+use Rattle.std.proofs.Common.{◌≡◌, ℕ, ◌+◌, ◌<◌, ◌≤◌, Bool, true, false, ltb, leb, List, [], ◌∷◌, ◌++◌, length, get_or, take, drop, set, is_some, IfOk, Some, None, Ok, Err, MatchBool, Option, Result, sym, refl, ap, ◌∙◌, subst, ap₂, subst₂, arith, MatchResult}
 use Rattle.std.proofs.lemmas.List.{append_assoc, drop_more, length-append, length-drop, length-map, length_push, map-append, set_at, take_at}
 use Rattle.std.proofs.lemmas.Bool.{cond-false, cond-true, le-leb, le-ltb, lt-leb, lt-ltb}
 use Rattle.fields.proofs.Fronts.{Front, front_cut, front_ends, front_more, front_none, front_stops}

@@ -1,6 +1,5 @@
 -- A record, read with a name list and followed with a machine.
 use Rattle.std.specs.Prelude.{◌≡◌, ℕ, List, ◌++◌, length, take, drop, Ok, Err, Result, MatchResult}
-use Rattle.fields.specs.declared.fault.Fault.{Fault}
 use Rattle.name_list.specs.Names.{Name}
 use Rattle.nested.specs.Automata.{Automaton}
 use Rattle.nested.specs.Following.{ReadWhole, Stopped, letters_read, marks_written}

@@ -2,7 +2,7 @@
 use Rattle.std.specs.Prelude.{◌≡◌, ℕ, ◌-◌, ◌*◌, Bool, true, false, not, ◌||◌, List, [], ◌∷◌, is_some, Some, None, Ok, Err, Option, Result, ◌==◌}
 use Rattle.fields.specs.Faults.{told}
 use Rattle.fields.specs.Fields.{Piece}
-use Rattle.fields.specs.Outcomes.{Check, first_fault}
+use Rattle.fields.specs.Outcomes.{first_fault}
 use Rattle.fields.specs.declared.fault.Fault.{Fault}
 use Rattle.name_list.specs.Names.{Name, name_bytes, name_long, number_of}
 use Rattle.records.specs.Records.{code_in, record_fault}

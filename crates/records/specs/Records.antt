@@ -1,10 +1,10 @@
 -- Records: which bytes spell which letters, and what reading and writing come to.
-use Rattle.std.specs.Prelude.{◌≡◌, ℕ, ◌+◌, ◌-◌, ◌*◌, ◌/◌, ◌%◌, ◌<◌, ◌≤◌, min, Bool, true, not, ◌||◌, List, [], ◌∷◌, ◌++◌, map, length, take, drop, is_some, Some, None, Ok, Err, MatchBool, Option, Result, MatchResult, ◌==◌, nat_le, nat_lt, slice_index, slice_index_or}
+use Rattle.std.specs.Prelude.{◌≡◌, ℕ, ◌+◌, ◌-◌, ◌*◌, ◌/◌, ◌%◌, ◌<◌, ◌≤◌, min, true, not, ◌||◌, List, [], ◌∷◌, ◌++◌, map, length, take, drop, is_some, Some, None, Ok, MatchBool, Option, Result, MatchResult, ◌==◌, nat_le, nat_lt, slice_index, slice_index_or}
 use Rattle.std.specs.Option.{unwrap_or}
 use Rattle.fields.specs.Faults.{fault_in, told}
 use Rattle.fields.specs.declared.fault.Told.{Told}
 use Rattle.fields.specs.Fields.{Piece, file_of, written}
-use Rattle.fields.specs.Outcomes.{Check, Fits, Format, Outcome, first_fault}
+use Rattle.fields.specs.Outcomes.{Fits, Format, Outcome, first_fault}
 use Rattle.fields.specs.declared.fault.Fault.{Fault}
 use Rattle.fields.specs.declared.fault.File.TheVariants.{Record}
 use Rattle.name_list.specs.Names.{Name, name_bytes, name_long, number_of}

@@ -1,4 +1,6 @@
 // Records: read, written, and checked with a machine.
+#![tactic(auto)]
+
 pub mod check;
 pub mod read;
 pub mod write;

@@ -51,11 +51,11 @@ module _ {S : Type 0} where
   later_grows A b c g fit =
       let room : length b.items ≡ b.at.item_row = fit.item_length in
       let few = fit.few in
-      let long = g.item-length in
+      let long = g.item_length in
       record {
         fitting = record {
-          item_length = g.item-length ∙ fit.item_length ∙ sym g.item-row;
-          making_length = g.making-length ∙ fit.making_length ∙ sym g.making-row;
+          item_length = g.item_length ∙ fit.item_length ∙ sym g.item_row;
+          making_length = g.making_length ∙ fit.making_length ∙ sym g.making_row;
           few = g.fits fit.few;
         };
         turns = g.turns;

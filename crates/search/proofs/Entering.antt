@@ -55,10 +55,10 @@ module _ {S : Type 0} (A : Automaton S) where
   grows_on : (b c d : Board S) → Grows A b c → Grows A c d → Grows A b d
   grows_on b c d g h = let le = g.entered in let more = h.entered in record {
     turns = h.turns ∙ g.turns;
-    item_row = h.item_row ∙ g.item-row;
-    making_row = h.making_row ∙ g.making-row;
-    item_length = h.item_length ∙ g.item-length;
-    making_length = h.making_length ∙ g.making-length;
+    item_row = h.item_row ∙ g.item_row;
+    making_row = h.making_row ∙ g.making_row;
+    item_length = h.item_length ∙ g.item_length;
+    making_length = h.making_length ∙ g.making_length;
     entered = omega arith;
     fits = λ le. h.fits (g.fits le);
     same = λ k lt. h.same k (omega arith) ∙ g.same k lt;

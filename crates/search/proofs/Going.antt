@@ -3,7 +3,7 @@ use Rattle.std.proofs.Common.{◌≡◌, ℕ, ◌-◌, Bool, true, take, refl, a
 use Rattle.nested.specs.Automata.{Automaton}
 use Rattle.items.specs.Words.{word_of}
 use Rattle.search.specs.Model.{Board, is_final, places, turns_done}
-use Rattle.search.specs.Promise.{FoundWord, Goes_on, Holds}
+use Rattle.search.specs.Promise.{FoundWord, GoesOn, Holds}
 use Rattle.search.specs.Reached.{AsLeft, Lawful, Reached}
 use Rattle.search.specs.declared.verdict.Verdict.{Verdict}
 use Rattle.search.specs.declared.verdict.Verdict.TheVariants as verdict
@@ -26,9 +26,9 @@ alike_left b brought left = record { search = left.search; makings = left.making
 
 module _ {S : Type 0} (A : Automaton S) (eq : S → S → Bool) where
   -- a search with a final verdict does not change
-  alike_going : (b c : Board S) → is_final b.at.verdict ≡ true → Goes_on A eq b c → Alike b c
-  alike_going b c ended (Goes_on.here _) = record { search = refl; makings = refl }
-  alike_going b c ended (Goes_on.advanced _ brought _ n left on) =
+  alike_going : (b c : Board S) → is_final b.at.verdict ≡ true → GoesOn A eq b c → Alike b c
+  alike_going b c ended (GoesOn.here _) = record { search = refl; makings = refl }
+  alike_going b c ended (GoesOn.advanced _ brought _ n left on) =
       let final = ap (λ p. is_final p.verdict) left.search ∙ ended in
       let stays = final_stays A eq n brought final in
       let behind = alike_going (turns_done A eq n brought) c (ap (λ d. is_final d.at.verdict) stays ∙ final) on in

@@ -1,5 +1,5 @@
 -- What the calls of a search promise.
-use Rattle.std.proofs.Common.{◌≡◌, ℕ, ◌+◌, ◌-◌, Bool, true, ◌⊎◌, List, length, Result, sym, refl, ap, ◌∙◌, subst, ⊎_elim}
+use Rattle.std.proofs.Common.{◌≡◌, ℕ, ◌+◌, Bool, true, List, length, Result, sym, refl, ap, ◌∙◌, subst, ⊎_elim}
 use Rattle.std.proofs.lemmas.Bool.{and_from, cases_Bool, eq-eqb}
 use Rattle.nested.specs.Automata.{Automaton}
 use Rattle.items.specs.Words.{word_of}
@@ -8,7 +8,7 @@ use Rattle.items.specs.declared.making.Making.{Making}
 use Rattle.search.specs.Boards.{board}
 use Rattle.search.specs.Calls.{GivesWord, is_found, last_item, rows_fit}
 use Rattle.search.specs.Model.{Board, opened, turns_done}
-use Rattle.search.specs.Promise.{FoundWord, Goes_on, HandsOut, HandsTruly, SaysTruly, TrueWord}
+use Rattle.search.specs.Promise.{FoundWord, GoesOn, HandsOut, HandsTruly, SaysTruly, TrueWord}
 use Rattle.search.specs.Reached.{AsLeft, Lawful, Reached}
 use Rattle.search.specs.declared.progress.Progress.{Progress}
 use Rattle.search.specs.declared.unwritten.Unwritten.{Unwritten}
@@ -29,7 +29,7 @@ module _ {S : Type 0} (brought : Board S) (was now : List ℕ) (A : Automaton S)
   found e = holds A eq law b requested reached verdict.Found (ap (λ p. p.verdict) (sym left.search) ∙ found_from brought.at.verdict e)
 
   the_word : (e : is_found brought.at.verdict ≡ true) → word_of brought.makings (last_item brought) ≡ (found e).word
-  the_word e = (found e).handed b brought (Goes_on.here b) left
+  the_word e = (found e).handed b brought (GoesOn.here b) left
 
   truly : (r : Result ℕ Unwritten) → GivesWord brought was now r → TrueWord A was now r
   truly r given = ⊎_elim

@@ -36,8 +36,8 @@ module _ {S : Type 0} (A : Automaton S) where
   pub ready_grows : (b c : Board S) → Grows A b c → Ready b → Ready c
   ready_grows b c g ready = record {
     fits = g.fits ready.fits;
-    item_length = g.item-length ∙ ready.item_length ∙ sym g.item-row;
-    making_length = g.making-length ∙ ready.making_length ∙ sym g.making-row;
+    item_length = g.item_length ∙ ready.item_length ∙ sym g.item_row;
+    making_length = g.making_length ∙ ready.making_length ∙ sym g.making_row;
     behind = λ running.
         let lt = ready.behind (sym (g.still (subst Going (sym running) tt)) ∙ running) in
         let same = g.turns in

@@ -1,6 +1,6 @@
 -- What entering keeps true of a board, while every candidate follows from the items entered before it.
 use Rattle.std.proofs.Common.{◌≡◌, ℕ, ◌+◌, ◌-◌, ◌<◌, ◌≤◌, Bool, true, false, cond, List, [], ◌∷◌, ◌++◌, length, take, set, sym, refl, ap, ◌∙◌, subst, ⊎_elim, arith}
-use Rattle.std.specs.List.{AllByRecursion as All}
+use Rattle.std.specs.List.{AllByRecursion}
 use Rattle.std.proofs.ByRecursion.{All-weaker}
 use Rattle.std.proofs.lemmas.List.{length_push, length-take-le}
 use Rattle.std.proofs.lemmas.Bool.{cases_eq, cond-true}
@@ -129,8 +129,8 @@ module _ {S : Type 0} (A : Automaton S) where
         (λ running t le. filled_does b c sound follows running (unlisted_is A eq law b.items b.at.entered c.new d within t) le)
 
     -- each of a list of candidates
-    pub enter_all_does : (b : Board S) (cs : List (Candidate S)) → Sound A b → All (Follows b) cs
-        → Sound A (enter_all A eq b cs) × ((enter_all A eq b cs).at.verdict ≡ verdict.Running → All (λ c. Present (enter_all A eq b cs) c.new) cs)
+    pub enter_all_does : (b : Board S) (cs : List (Candidate S)) → Sound A b → AllByRecursion (Follows b) cs
+        → Sound A (enter_all A eq b cs) × ((enter_all A eq b cs).at.verdict ≡ verdict.Running → AllByRecursion (λ c. Present (enter_all A eq b cs) c.new) cs)
     unfolding enter_all
     enter_all_does b [] sound follows = (sound, λ e. tt)
     enter_all_does b (c ∷ cs) sound follows =

@@ -1,5 +1,5 @@
 -- The search on lists: what a turn tries, in order, and what the calls come to for every search and all rows.
-use Rattle.std.specs.Prelude.{ℕ, zero, suc, ◌+◌, ◌-◌, min, Bool, true, false, cond, ◌&&◌, ◌||◌, List, [], ◌∷◌, ◌++◌, length, take, ◌==◌, nat_lt, slice_set}
+use Rattle.std.specs.Prelude.{ℕ, zero, suc, ◌+◌, min, Bool, true, false, cond, ◌&&◌, ◌||◌, List, [], ◌∷◌, ◌++◌, length, take, ◌==◌, nat_lt, slice_set}
 use Rattle.nested.specs.Automata.{Automaton}
 use Rattle.nested.specs.declared.letter.Letter.TheVariants as letter
 use Rattle.items.specs.Items.{item}

@@ -19,16 +19,16 @@ use Rattle.search.specs.declared.verdict.Verdict.TheVariants as verdict
 
 module _ {S : Type 0} (A : Automaton S) (eq : S → S → Bool) where
   -- A list of calls without an opening leads from one search, with its rows as it left them, to another.
-  pub data Goes_on : Board S → Board S → Type 0 where
-    here : (b : Board S) → Goes_on b b
-    advanced : (b brought c : Board S) (n : ℕ) → AsLeft b brought → Goes_on (turns_done A eq n brought) c → Goes_on b c
+  pub data GoesOn : Board S → Board S → Type 0 where
+    here : (b : Board S) → GoesOn b b
+    advanced : (b brought c : Board S) (n : ℕ) → AsLeft b brought → GoesOn (turns_done A eq n brought) c → GoesOn b c
 
   -- Found: this word satisfies the question, and as long as the search is not opened again it says found, and this is the word that it hands out.
   pub record FoundWord (b : Board S) : Type 0 where
     pub word : List Letter
     pub satisfies : Satisfies A word
-    pub said : (c : Board S) → Goes_on b c → c.at.verdict ≡ verdict.Found
-    pub handed : (c brought : Board S) → Goes_on b c → AsLeft c brought → word_of brought.makings (brought.at.entered - 1) ≡ word
+    pub said : (c : Board S) → GoesOn b c → c.at.verdict ≡ verdict.Found
+    pub handed : (c brought : Board S) → GoesOn b c → AsLeft c brought → word_of brought.makings (brought.at.entered - 1) ≡ word
 
   -- What is true where a search says this verdict, with so many turns requested since the latest opening: none, no word satisfies the
   -- question; found, some word does; full, more items can be derived than there are places; running, more than turns were requested.

@@ -1,6 +1,6 @@
 -- What lists of calls lead to, and how many items can be derived.
 use Rattle.std.specs.Prelude.{◌≡◌, ℕ, ◌+◌, ◌<◌, Bool, true, List, [], length, take, ◌≢◌, slice_index_or}
-use Rattle.std.specs.List.{AllByRecursion as All}
+use Rattle.std.specs.List.{AllByRecursion}
 use Rattle.nested.specs.Automata.{Automaton}
 use Rattle.items.specs.Items.{IsDerivable}
 use Rattle.items.specs.declared.item.Item.{Item}
@@ -24,7 +24,7 @@ module _ {S : Type 0} (A : Automaton S) where
   -- More than n items can be derived: here are so many, no two of them one.
   pub record MoreDerivable (n : ℕ) : Type 0 where
     pub some : List (Item S)
-    pub derivable : All (IsDerivable A) some
+    pub derivable : AllByRecursion (IsDerivable A) some
     pub distinct : (j k : ℕ) (d : Item S) → j < k → k < length some → slice_index_or some j d ≢ slice_index_or some k d
     pub more : n < length some
 

@@ -1,13 +1,15 @@
 // The search for a word that a machine accepts, among all nested words.
-pub mod call;
-pub mod calls;
+#![tactic(auto)]
+
+mod call;
+mod calls;
 mod enter;
 mod levels;
 mod pairs;
 mod perform;
 pub mod progress;
 mod rules;
-pub mod search;
+mod search;
 mod turn;
-pub mod unwritten;
+mod unwritten;
 pub mod verdict;

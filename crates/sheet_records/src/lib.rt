@@ -1,2 +1,4 @@
 // Records checked with a sheet.
+#![tactic(auto)]
+
 pub mod check;

@@ -1,7 +1,7 @@
 -- The moves of a list.
 use Rattle.std.proofs.Common.{◌≡◌, ℕ, zero, suc, ◌<◌, true, cond, ◌&&◌, ◌||◌, eqb, List, [], ◌∷◌, ◌++◌, length, get_or, sym, refl, ap, ◌∙◌, subst, ap₂, ⊎_elim, arith}
 use mathlib.Core.Bool.{and_assoc, or_assoc}
-use Rattle.std.specs.List.{ContainsAt as Has, AllByRecursion as All}
+use Rattle.std.specs.List.{ContainsAt as Has, AllByRecursion}
 use Rattle.std.proofs.ByRecursion.{all-has}
 use Rattle.std.proofs.lemmas.Slice.Eq.{bytes_eq-Decides}
 use Rattle.std.proofs.lemmas.Bool.{and_from, and_parts, eq-eqb, eqb-true, or_cases, or_left, or_right}
@@ -47,7 +47,7 @@ among_getD (n ∷ ns) (suc k) m lt = or_right (same_move n (get_or ns k m)) (amo
 pub has_among : (ms : List Move) (m : Move) → Has ms m → among ms m ≡ true
 has_among ms m h = subst (λ n. among ms n ≡ true) (h.2 m) (among_getD ms h.0 m h.1)
 
-each_in_range : (n : ℕ) (ms : List Move) → all_in_range n ms ≡ true → All (λ m. in_range n m ≡ true) ms
+each_in_range : (n : ℕ) (ms : List Move) → all_in_range n ms ≡ true → AllByRecursion (λ m. in_range n m ≡ true) ms
 unfolding all_in_range
 each_in_range n [] h = tt
 each_in_range n (m ∷ ms) h = let (one, more) = and_parts (in_range n m) (all_in_range n ms) h in (one, each_in_range n ms more)

@@ -1,4 +1,6 @@
 // Sheets: automata on nested words that may choose, followed by the sets of states that their runs can be in.
+#![tactic(auto)]
+
 pub mod machine;
 pub mod moves;
 pub mod sheet;

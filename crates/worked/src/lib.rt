@@ -1,4 +1,6 @@
 // Worked cases. The tests try what no contract says: that the definitions give the results people worked out by hand.
+#![tactic(auto)]
+
 #[cfg(test)]
 mod tests {
     use machines::depth::Depth;

@@ -12,4 +12,4 @@ pub returns : goal.returns
 returns c =
     let high = c.from.ensures in
     let low = c.from-2.ensures in
-    in_front c.args.left.now (c.from.result * 256 + c.from-2.result) _ c.by-tag.result (omega arith) (omega (arith, c.type-inv.left 2)) (omega arith) (omega arith) c.by-tag.ensures (ap (λ n. take n (drop 3 c.args.left.now)) (omega arith))
+    in_front c.args.left.now (c.from.result * 256 + c.from-2.result) _ c.by_tag.result (omega arith) (omega (arith, c.type_inv.left 2)) (omega arith) (omega arith) c.by_tag.ensures (ap (λ n. take n (drop 3 c.args.left.now)) (omega arith))

@@ -1,4 +1,4 @@
 use Rattle.items.proofs.words.+length_within.Given as goal
 
-abbrev pub decreases-length-within : goal.decreases-length-within
-decreases-length-within l = l.number
+abbrev pub decreases-length_within : goal.decreases-length_within
+decreases-length_within l = l.number

@@ -1,4 +1,4 @@
 use Rattle.items.proofs.words.+put_word.Given as goal
 
-abbrev pub decreases-put-word : goal.decreases-put-word
-decreases-put-word l = l.number
+abbrev pub decreases-put_word : goal.decreases-put_word
+decreases-put_word l = l.number

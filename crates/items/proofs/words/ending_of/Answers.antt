@@ -2,4 +2,4 @@ use Rattle.items.proofs.Endings.{ends}
 use Rattle.items.proofs.words.ending_of.Goals as goal
 
 pub returns : goal.returns
-returns c = ends c.args.makings.now c.args.part c.args.number c.how-of.result c.ending-by.result c.how-of.ensures c.ending-by.ensures
+returns c = ends c.args.makings.now c.args.part c.args.number c.how_of.result c.ending_by.result c.how_of.ensures c.ending_by.ensures

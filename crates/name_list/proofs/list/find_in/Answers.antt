@@ -1,4 +1,4 @@
-use Rattle.std.proofs.Common.{◌≡◌, ◌<◌, [], length, get_or, sym, ap, ◌∙◌, arith}
+use Rattle.std.proofs.Common.{sym, ap, ◌∙◌, arith}
 use Rattle.name_list.specs.Names.{names_of, same_name}
 use Rattle.name_list.proofs.Held.{from_zero, names_length, names_read, number_here, number_later, number_nowhere}
 use Rattle.name_list.proofs.list.find_in.Goals as goal
@@ -6,14 +6,14 @@ use Rattle.name_list.proofs.list.find_in.Goals as goal
 pub loop-i-init : goal.loop-i-init
 loop-i-init c = from_zero _
 
-pub returns-then-same-name : goal.returns-then-same-name
-returns-then-same-name c =
+pub returns-then-same_name : goal.returns-then-same_name
+returns-then-same_name c =
     let v = c.args.names.now in
     let i = c.loop-i.i in
     let long = names_length v in
     let slice = c.deref-listed-items.ensures.len in
     let read = names_read v c.deref-listed-items.result.now i c.listed-item.result c.deref-listed-items.ensures.value c.loop-i-test.true c.listed-item.is in
-    let same = ap (λ n. same_name n c.args.name.now) (read ∙ sym c.as-slice.ensures.value) ∙ sym c.if-same-name.ensures in
+    let same = ap (λ n. same_name n c.args.name.now) (read ∙ sym c.as_slice.ensures.value) ∙ sym c.if-same_name.ensures in
     sym (number_here (names_of v) c.args.name.now i (omega arith) same) ∙ c.loop-i.invariant
 
 pub loop-i-preserved : goal.loop-i-preserved
@@ -23,7 +23,7 @@ loop-i-preserved c =
     let long = names_length v in
     let slice = c.deref-listed-items.ensures.len in
     let read = names_read v c.deref-listed-items.result.now i c.listed-item.result c.deref-listed-items.ensures.value c.loop-i-test.true c.listed-item.is in
-    let differ = ap (λ n. same_name n c.args.name.now) (read ∙ sym c.as-slice.ensures.value) ∙ sym c.if-same-name.ensures in
+    let differ = ap (λ n. same_name n c.args.name.now) (read ∙ sym c.as_slice.ensures.value) ∙ sym c.if-same_name.ensures in
     sym (number_later (names_of v) c.args.name.now i (omega arith) differ) ∙ c.loop-i.invariant
 
 pub returns : goal.returns

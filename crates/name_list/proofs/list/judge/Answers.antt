@@ -5,44 +5,44 @@ use Rattle.name_list.proofs.Held.{names_length}
 use Rattle.name_list.proofs.Judging.{byte_fault, fault_told, length_fault, many_fault, name_fault_told, no_fault, other_tag, tag_fault, twice_fault}
 use Rattle.name_list.proofs.list.judge.Goals as goal
 
-pub returns-in-default : goal.returns-in-default
-returns-in-default c =
+pub returns-in_default : goal.returns-in_default
+returns-in_default c =
     let ns = names_of c.args.names.now in
-    let fault = tag_fault ns (piece_of c.args.field) (other_tag c.args.field c.requires c.in-default.not-Name) in
+    let fault = tag_fault ns (piece_of c.args.field) (other_tag c.args.field c.requires c.in_default.not-Name) in
     fault_told ns (piece_of c.args.field) (part_of c.args.field).place 11 _ fault (ap (λ p. names_fault p.place (Some 11)) c.part-place.ensures)
 
-pub returns-then-not-has-name-length : goal.returns-then-not-has-name-length
-returns-then-not-has-name-length c =
+pub returns-then-not-has_name_length : goal.returns-then-not-has_name_length
+returns-then-not-has_name_length c =
     let ns = names_of c.args.names.now in
-    name_fault_told ns c.args.field c.in-Name.part 12 _ c.in-Name.is (length_fault ns _ (sym c.if-not-has-name-length.ensures)) refl
+    name_fault_told ns c.args.field c.in-Name.part 12 _ c.in-Name.is (length_fault ns _ (sym c.if-not-has_name_length.ensures)) refl
 
 pub returns-then-len-ge16 : goal.returns-then-len-ge16
 returns-then-len-ge16 c =
     let ns = names_of c.args.names.now in
     let long = names_length c.args.names.now in
     let len = c.len.ensures in
-    name_fault_told ns c.args.field c.in-Name.part 18 _ c.in-Name.is (many_fault ns _ (sym c.if-not-has-name-length.ensures) (omega arith)) refl
+    name_fault_told ns c.args.field c.in-Name.part 18 _ c.in-Name.is (many_fault ns _ (sym c.if-not-has_name_length.ensures) (omega arith)) refl
 
-pub returns-then-not-has-name-bytes : goal.returns-then-not-has-name-bytes
-returns-then-not-has-name-bytes c =
+pub returns-then-not-has_name_bytes : goal.returns-then-not-has_name_bytes
+returns-then-not-has_name_bytes c =
     let ns = names_of c.args.names.now in
     let long = names_length c.args.names.now in
     let len = c.len.ensures in
-    name_fault_told ns c.args.field c.in-Name.part 13 _ c.in-Name.is (byte_fault ns _ (sym c.if-not-has-name-length.ensures) (omega arith) (sym c.if-not-has-name-bytes.ensures)) refl
+    name_fault_told ns c.args.field c.in-Name.part 13 _ c.in-Name.is (byte_fault ns _ (sym c.if-not-has_name_length.ensures) (omega arith) (sym c.if-not-has_name_bytes.ensures)) refl
 
-pub returns-then-is-some : goal.returns-then-is-some
-returns-then-is-some c =
+pub returns-then-is_some : goal.returns-then-is_some
+returns-then-is_some c =
     let ns = names_of c.args.names.now in
     let long = names_length c.args.names.now in
     let len = c.len.ensures in
-    let found = ap is_some (sym c.find-in.ensures) ∙ sym c.if-is-some.ensures in
-    name_fault_told ns c.args.field c.in-Name.part 17 _ c.in-Name.is (twice_fault ns _ (sym c.if-not-has-name-length.ensures) (omega arith) (sym c.if-not-has-name-bytes.ensures) found) refl
+    let found = ap is_some (sym c.find_in.ensures) ∙ sym c.if-is_some.ensures in
+    name_fault_told ns c.args.field c.in-Name.part 17 _ c.in-Name.is (twice_fault ns _ (sym c.if-not-has_name_length.ensures) (omega arith) (sym c.if-not-has_name_bytes.ensures) found) refl
 
 pub returns : goal.returns
 returns c =
     let ns = names_of c.args.names.now in
     let long = names_length c.args.names.now in
     let len = c.len.ensures in
-    let missing = ap is_some (sym c.find-in.ensures) ∙ sym c.if-is-some.ensures in
-    let fault = no_fault ns _ (sym c.if-not-has-name-length.ensures) (omega arith) (sym c.if-not-has-name-bytes.ensures) missing in
+    let missing = ap is_some (sym c.find_in.ensures) ∙ sym c.if-is_some.ensures in
+    let fault = no_fault ns _ (sym c.if-not-has_name_length.ensures) (omega arith) (sym c.if-not-has_name_bytes.ensures) missing in
     (ap (λ x. names_format (map name_field ns) (piece_of x)) c.in-Name.is ∙ fault, ap (λ x. (part_of x).contents.now) (sym c.in-Name.is))

@@ -5,4 +5,4 @@ use Rattle.name_list.proofs.list.keep_name.Goals as goal
 
 pub returns : goal.returns
 returns c =
-    ap (map vec_items) c.in-ok-push.ensures.items ∙ map-append vec_items (vec_items c.args.names.now) _ ∙ ap (λ n. names_of c.args.names.now ++ n ∷ []) c.in-ok-from-slice.ensures.items
+    ap (map vec_items) c.in_ok-push.ensures.items ∙ map-append vec_items (vec_items c.args.names.now) _ ∙ ap (λ n. names_of c.args.names.now ++ n ∷ []) c.in_ok-from_slice.ensures.items

@@ -1,4 +1,4 @@
-use Rattle.std.proofs.Common.{◌≡◌, ◌-◌, length, vec_len}
+use Rattle.std.proofs.Common.{◌≡◌, ◌-◌, length}
 use Rattle.fields.specs.declared.fault.File.TheVariants.{Names}
 use Rattle.name_list.specs.Names.{names_of}
 use Rattle.name_list.proofs.Loading.{ReadSoFar}

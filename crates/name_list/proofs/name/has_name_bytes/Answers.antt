@@ -4,13 +4,13 @@ use Rattle.name_list.specs.Names.{name_bytes}
 use Rattle.name_list.proofs.Bytes.{good_byte, bad_byte}
 use Rattle.name_list.proofs.name.has_name_bytes.Goals as goal
 
-pub returns-then-not-is-name-byte : goal.returns-then-not-is-name-byte
-returns-then-not-is-name-byte c =
-    sym (sym c.loop-byte.invariant ∙ bad_byte c.args.name.now c.loop-byte.byte-index c.loop-byte-test.true (sym c.is-name-byte.ensures ∙ c.if-not-is-name-byte.true))
+pub returns-then-not-is_name_byte : goal.returns-then-not-is_name_byte
+returns-then-not-is_name_byte c =
+    sym (sym c.loop-byte.invariant ∙ bad_byte c.args.name.now c.loop-byte.byte-index c.loop-byte-test.true (sym c.is_name_byte.ensures ∙ c.if-not-is_name_byte.true))
 
 pub loop-byte-preserved : goal.loop-byte-preserved
 loop-byte-preserved c =
-    good_byte c.args.name.now c.loop-byte.byte-index c.loop-byte-test.true (sym c.is-name-byte.ensures ∙ c.if-not-is-name-byte.false) ∙ c.loop-byte.invariant
+    good_byte c.args.name.now c.loop-byte.byte-index c.loop-byte-test.true (sym c.is_name_byte.ensures ∙ c.if-not-is_name_byte.false) ∙ c.loop-byte.invariant
 
 pub returns : goal.returns
 returns c = sym (at_drop_all name_bytes c.args.name.now c.loop-byte.byte-index c.loop-byte-test.false) ∙ c.loop-byte.invariant

@@ -1,4 +1,4 @@
-use Rattle.std.proofs.Common.{ℕ, get_or, Some, None, sym, ap, ◌∙◌, subst}
+use Rattle.std.proofs.Common.{get_or, Some, ap, ◌∙◌, subst}
 use Rattle.nested.specs.Following.{Reads, number}
 use Rattle.nested.specs.Letters.{letter_of}
 use Rattle.nested.proofs.Words.{followed_none, followed_more, refused_here, read_whole, written_whole}
@@ -28,9 +28,9 @@ loop-letter-preserved g c =
     let A = g.M.Machine.meaning c.args.machine.now in
     let f = c.loop-letter.invariant.1 in
     let code = get_or c.args.codes.now c.loop-letter.letter 0 in
-    let reads = subst (λ m. Reads (g.M.Machine.meaning m) (letter_of code) c.loop-letter.follower.at c.loop-letter.marks c.follow.new.self.at c.follow.new.marks) c.loop-letter.invariant.0 c.in-default.ensures.reads in (
-      c.in-default.ensures.machine ∙ c.loop-letter.invariant.0,
-      followed_more A c.args.codes.now c.args.marks.now c.loop-letter.letter c.loop-letter.follower.at c.loop-letter.marks f c.follow.new.self.at c.follow.new.marks c.loop-letter-test.true c.loop-letter.auto.marks c.in-default.ensures.answer reads,
+    let reads = subst (λ m. Reads (g.M.Machine.meaning m) (letter_of code) c.loop-letter.follower.at c.loop-letter.marks c.follow.new.self.at c.follow.new.marks) c.loop-letter.invariant.0 c.in_default.ensures.reads in (
+      c.in_default.ensures.machine ∙ c.loop-letter.invariant.0,
+      followed_more A c.args.codes.now c.args.marks.now c.loop-letter.letter c.loop-letter.follower.at c.loop-letter.marks f c.follow.new.self.at c.follow.new.marks c.loop-letter-test.true c.loop-letter.auto.marks c.in_default.ensures.answer reads,
     )
 
 pub returns : goal.returns

@@ -6,9 +6,9 @@ use Rattle.records.proofs.write.put_letter.Goals as goal
 pub returns-then-code-gt47 : goal.returns-then-code-gt47
 returns-then-code-gt47 c = not_a_letter (names_of c.args.names.now.names) c.args.index c.args.code c.args.used c.args.out.now c.if-code-gt47.true
 
-pub returns-in-default : goal.returns-in-default
-returns-in-default c =
-    let past = c.in-default.ensures in
+pub returns-in_default : goal.returns-in_default
+returns-in_default c =
+    let past = c.in_default.ensures in
     unlisted (names_of c.args.names.now.names) c.args.index c.args.code c.args.used c.args.out.now c.if-code-gt47.false (omega arith)
 
 pub returns-then-end-min : goal.returns-then-end-min
@@ -17,4 +17,4 @@ returns-then-end-min c =
 
 pub returns : goal.returns
 returns c =
-    letter_put (names_of c.args.names.now.names) c.args.index c.args.code c.args.used c.args.out.now c.if-code-gt47.false c.in-Some.name.now c.from.result c.from.ensures c.in-Some.ensures c.put-field.new.out (omega arith) c.put-field.ensures
+    letter_put (names_of c.args.names.now.names) c.args.index c.args.code c.args.used c.args.out.now c.if-code-gt47.false c.in-Some.name.now c.from.result c.from.ensures c.in-Some.ensures c.put_field.new.out (omega arith) c.put_field.ensures

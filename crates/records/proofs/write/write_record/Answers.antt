@@ -7,15 +7,15 @@ use Rattle.records.proofs.write.write_record.Goals as goal
 pub loop-index-init : goal.loop-index-init
 loop-index-init c = so_far_none (names_of c.args.names.now.names) c.args.codes.now c.args.out.now
 
-pub returns-in-err-used : goal.returns-in-err-used
-returns-in-err-used c =
-    let p = err_from_is_err_and c.from-residual.result c.from-residual.ensures.1 in
-    let stopped = writes_stopped (names_of c.args.names.now.names) c.args.codes.now c.args.out.now c.loop-index.index c.loop-index.used c.loop-index.out c.loop-index.invariant c.put-letter.new.out c.in-err-used.field-0.0 c.loop-index-test.true c.loop-index.auto.out c.in-err-used.ensures in
+pub returns-in_err-used : goal.returns-in_err-used
+returns-in_err-used c =
+    let p = err_from_is_err_and c.from_residual.result c.from_residual.ensures.1 in
+    let stopped = writes_stopped (names_of c.args.names.now.names) c.args.codes.now c.args.out.now c.loop-index.index c.loop-index.used c.loop-index.out c.loop-index.invariant c.put_letter.new.out c.in_err-used.field-0.0 c.loop-index-test.true c.loop-index.auto.out c.in_err-used.ensures in
     rw (p.1, p.2) (record { writes = stopped; reads_back = tt })
 
 pub loop-index-preserved : goal.loop-index-preserved
 loop-index-preserved c =
-    so_far_more (names_of c.args.names.now.names) c.args.codes.now c.args.out.now c.loop-index.index c.loop-index.used c.loop-index.out c.loop-index.invariant c.in-ok-used.used c.put-letter.new.out c.loop-index-test.true c.loop-index.auto.out c.in-ok-used.ensures
+    so_far_more (names_of c.args.names.now.names) c.args.codes.now c.args.out.now c.loop-index.index c.loop-index.used c.loop-index.out c.loop-index.invariant c.in_ok-used.used c.put_letter.new.out c.loop-index-test.true c.loop-index.auto.out c.in_ok-used.ensures
 
 pub returns : goal.returns
 returns c =

@@ -13,17 +13,17 @@ loop-other-init g c =
     let tried = λ (j : ℕ). by_match A eq c.args.items.now j c.args.number in
     gone_none A eq start start tried
 
-pub returns-then-is-final : goal.returns-then-is-final
-returns-then-is-final g c =
+pub returns-then-is_final : goal.returns-then-is_final
+returns-then-is_final g c =
     let A = g.M.Machine.meaning c.args.question.now in
     let eq = g.M.Machine.equal c.args.question.now in
     let start = board c.args.at.now c.args.items.now c.args.makings.now in
     let here = board c.loop-other.at c.loop-other.items c.loop-other.makings in
     let tried = λ (j : ℕ). by_match A eq c.args.items.now j c.args.number in
-    gone_final A eq start here tried c.loop-other.other c.loop-other.invariant c.args.number (omega arith) (sym c.is-final.ensures ∙ c.if-is-final.true)
+    gone_final A eq start here tried c.loop-other.other c.loop-other.invariant c.args.number (omega arith) (sym c.is_final.ensures ∙ c.if-is_final.true)
 
-pub by-match-requires : goal.by-match-requires
-by-match-requires g c =
+pub by_match-requires : goal.by_match-requires
+by_match-requires g c =
     let A = g.M.Machine.meaning c.args.question.now in
     let eq = g.M.Machine.equal c.args.question.now in
     let start = board c.args.at.now c.args.items.now c.args.makings.now in
@@ -40,4 +40,4 @@ loop-other-preserved g c =
     let here = board c.loop-other.at c.loop-other.items c.loop-other.makings in
     let tried = λ (j : ℕ). by_match A eq c.args.items.now j c.args.number in
     let later = gone_later A eq start here tried c.loop-other.other c.loop-other.invariant c.requires.rows in
-    gone_more A eq start here tried c.loop-other.other c.loop-other.invariant (board c.by-match.new.at c.by-match.new.items c.by-match.new.makings) (by_match A eq c.loop-other.items c.loop-other.other c.args.number) c.by-match.ensures (match_later A eq start here later c.loop-other.other c.args.number (omega arith) c.requires.there)
+    gone_more A eq start here tried c.loop-other.other c.loop-other.invariant (board c.by_match.new.at c.by_match.new.items c.by_match.new.makings) (by_match A eq c.loop-other.items c.loop-other.other c.args.number) c.by_match.ensures (match_later A eq start here later c.loop-other.other c.args.number (omega arith) c.requires.there)

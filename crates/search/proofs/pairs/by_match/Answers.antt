@@ -5,15 +5,15 @@ use Rattle.search.proofs.Boards.{all_none, gone_final, gone_later, gone_more, go
 use Rattle.search.proofs.Candidates.{match_base, match_inner, return_later}
 use Rattle.search.proofs.pairs.by_match.Goals as goal
 
-pub offset-bounds-items-second : goal.offset-bounds-items-second
-offset-bounds-items-second g c = let lt : c.args.second < length c.args.items.now = omega arith in search rules
+pub offset_bounds-items-second : goal.offset_bounds-items-second
+offset_bounds-items-second g c = let lt : c.args.second < length c.args.items.now = omega arith in search rules
 
-pub returns-then-is-base : goal.returns-then-is-base
-returns-then-is-base g c =
+pub returns-then-is_base : goal.returns-then-is_base
+returns-then-is_base g c =
     let A = g.M.Machine.meaning c.args.question.now in
     let eq = g.M.Machine.equal c.args.question.now in
     let start = board c.args.at.now c.args.items.now c.args.makings.now in
-    all_none A eq start ∙ ap (enter_all A eq start) (sym (match_base A c.args.items.now c.args.second c.index-items-second.result (omega arith) c.index-items-second.is eq c.is-base.result c.is-base.ensures c.args.first c.if-is-base.true))
+    all_none A eq start ∙ ap (enter_all A eq start) (sym (match_base A c.args.items.now c.args.second c.index-items-second.result (omega arith) c.index-items-second.is eq c.is_base.result c.is_base.ensures c.args.first c.if-is_base.true))
 
 pub loop-opened-init : goal.loop-opened-init
 loop-opened-init g c =
@@ -23,17 +23,17 @@ loop-opened-init g c =
     let tried = by_return A eq c.args.items.now c.args.first c.args.second in
     gone_none A eq start start tried
 
-pub returns-then-is-final : goal.returns-then-is-final
-returns-then-is-final g c =
+pub returns-then-is_final : goal.returns-then-is_final
+returns-then-is_final g c =
     let A = g.M.Machine.meaning c.args.question.now in
     let eq = g.M.Machine.equal c.args.question.now in
     let start = board c.args.at.now c.args.items.now c.args.makings.now in
     let here = board c.loop-opened.at c.loop-opened.items c.loop-opened.makings in
     let tried = by_return A eq c.args.items.now c.args.first c.args.second in
-    gone_final A eq start here tried c.loop-opened.opened c.loop-opened.invariant 16 (omega arith) (sym c.is-final.ensures ∙ c.if-is-final.true) ∙ ap (enter_all A eq start) (sym (match_inner A c.args.items.now c.args.second c.index-items-second.result (omega arith) c.index-items-second.is eq c.is-base.result c.is-base.ensures c.args.first c.if-is-base.false))
+    gone_final A eq start here tried c.loop-opened.opened c.loop-opened.invariant 16 (omega arith) (sym c.is_final.ensures ∙ c.if-is_final.true) ∙ ap (enter_all A eq start) (sym (match_inner A c.args.items.now c.args.second c.index-items-second.result (omega arith) c.index-items-second.is eq c.is_base.result c.is_base.ensures c.args.first c.if-is_base.false))
 
-pub by-return-requires : goal.by-return-requires
-by-return-requires g c =
+pub by_return-requires : goal.by_return-requires
+by_return-requires g c =
     let A = g.M.Machine.meaning c.args.question.now in
     let eq = g.M.Machine.equal c.args.question.now in
     let start = board c.args.at.now c.args.items.now c.args.makings.now in
@@ -50,4 +50,4 @@ loop-opened-preserved g c =
     let here = board c.loop-opened.at c.loop-opened.items c.loop-opened.makings in
     let tried = by_return A eq c.args.items.now c.args.first c.args.second in
     let later = gone_later A eq start here tried c.loop-opened.opened c.loop-opened.invariant c.requires.rows in
-    gone_more A eq start here tried c.loop-opened.opened c.loop-opened.invariant (board c.by-return.new.at c.by-return.new.items c.by-return.new.makings) (by_return A eq c.loop-opened.items c.args.first c.args.second c.loop-opened.opened) c.by-return.ensures (return_later A eq start here later c.args.first c.args.second c.requires.first c.requires.second c.loop-opened.opened)
+    gone_more A eq start here tried c.loop-opened.opened c.loop-opened.invariant (board c.by_return.new.at c.by_return.new.items c.by_return.new.makings) (by_return A eq c.loop-opened.items c.args.first c.args.second c.loop-opened.opened) c.by_return.ensures (return_later A eq start here later c.args.first c.args.second c.requires.first c.requires.second c.loop-opened.opened)

@@ -9,8 +9,8 @@ use Rattle.search.proofs.Boards.{gone_final, gone_later, gone_none, gone_one}
 use Rattle.search.proofs.Candidates.{call_made, call_of}
 use Rattle.search.proofs.rules.by_call.Goals as goal
 
-pub offset-bounds-items-number : goal.offset-bounds-items-number
-offset-bounds-items-number g c = let lt : c.args.number < length c.args.items.now = omega arith in search rules
+pub offset_bounds-items-number : goal.offset_bounds-items-number
+offset_bounds-items-number g c = let lt : c.args.number < length c.args.items.now = omega arith in search rules
 
 pub loop-name-init : goal.loop-name-init
 loop-name-init g c =
@@ -20,14 +20,14 @@ loop-name-init g c =
     let tried = call_of A c.args.number (at A c.args.items.now c.args.number) in
     gone_none A eq start start tried
 
-pub returns-then-is-final : goal.returns-then-is-final
-returns-then-is-final g c =
+pub returns-then-is_final : goal.returns-then-is_final
+returns-then-is_final g c =
     let A = g.M.Machine.meaning c.args.question.now in
     let eq = g.M.Machine.equal c.args.question.now in
     let start = board c.args.at.now c.args.items.now c.args.makings.now in
     let here = board c.loop-name.at c.loop-name.items c.loop-name.makings in
     let tried = call_of A c.args.number (at A c.args.items.now c.args.number) in
-    gone_final A eq start here tried c.loop-name.name c.loop-name.invariant 16 (omega arith) (sym c.is-final.ensures ∙ c.if-is-final.true)
+    gone_final A eq start here tried c.loop-name.name c.loop-name.invariant 16 (omega arith) (sym c.is_final.ensures ∙ c.if-is_final.true)
 
 pub enter-requires : goal.enter-requires
 enter-requires g c =

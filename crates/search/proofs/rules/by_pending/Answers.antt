@@ -10,15 +10,15 @@ use Rattle.search.proofs.Boards.{all_none, gone_final, gone_later, gone_none, go
 use Rattle.search.proofs.Candidates.{pending_base, pending_inner, pending_made, pending_of}
 use Rattle.search.proofs.rules.by_pending.Goals as goal
 
-pub offset-bounds-items-number : goal.offset-bounds-items-number
-offset-bounds-items-number g c = let lt : c.args.number < length c.args.items.now = omega arith in search rules
+pub offset_bounds-items-number : goal.offset_bounds-items-number
+offset_bounds-items-number g c = let lt : c.args.number < length c.args.items.now = omega arith in search rules
 
-pub returns-then-not-is-base : goal.returns-then-not-is-base
-returns-then-not-is-base g c =
+pub returns-then-not-is_base : goal.returns-then-not-is_base
+returns-then-not-is_base g c =
     let A = g.M.Machine.meaning c.args.question.now in
     let eq = g.M.Machine.equal c.args.question.now in
     let start = board c.args.at.now c.args.items.now c.args.makings.now in
-    all_none A eq start ∙ ap (enter_all A eq start) (sym (pending_inner A c.args.items.now c.args.number c.index-items-number.result (omega arith) c.index-items-number.is eq c.is-base.result c.is-base.ensures c.if-not-is-base.true))
+    all_none A eq start ∙ ap (enter_all A eq start) (sym (pending_inner A c.args.items.now c.args.number c.index-items-number.result (omega arith) c.index-items-number.is eq c.is_base.result c.is_base.ensures c.if-not-is_base.true))
 
 pub loop-name-init : goal.loop-name-init
 loop-name-init g c =
@@ -28,14 +28,14 @@ loop-name-init g c =
     let tried = pending_of A c.args.number (at A c.args.items.now c.args.number) in
     gone_none A eq start start tried
 
-pub returns-then-is-final : goal.returns-then-is-final
-returns-then-is-final g c =
+pub returns-then-is_final : goal.returns-then-is_final
+returns-then-is_final g c =
     let A = g.M.Machine.meaning c.args.question.now in
     let eq = g.M.Machine.equal c.args.question.now in
     let start = board c.args.at.now c.args.items.now c.args.makings.now in
     let here = board c.loop-name.at c.loop-name.items c.loop-name.makings in
     let tried = pending_of A c.args.number (at A c.args.items.now c.args.number) in
-    gone_final A eq start here tried c.loop-name.name c.loop-name.invariant 16 (omega arith) (sym c.is-final.ensures ∙ c.if-is-final.true) ∙ ap (enter_all A eq start) (sym (pending_base A c.args.items.now c.args.number c.index-items-number.result (omega arith) c.index-items-number.is eq c.is-base.result c.is-base.ensures c.if-not-is-base.false))
+    gone_final A eq start here tried c.loop-name.name c.loop-name.invariant 16 (omega arith) (sym c.is_final.ensures ∙ c.if-is_final.true) ∙ ap (enter_all A eq start) (sym (pending_base A c.args.items.now c.args.number c.index-items-number.result (omega arith) c.index-items-number.is eq c.is_base.result c.is_base.ensures c.if-not-is_base.false))
 
 pub enter-requires : goal.enter-requires
 enter-requires g c =

@@ -8,5 +8,5 @@ returns-then-name-opened c = enter_hit c.args.before c.args.state.pairs (c.args.
 pub returns-else-name-opened : goal.returns-else-name-opened
 returns-else-name-opened c = enter_miss c.args.before c.args.state.pairs (c.args.opened % 16) c.args.step c.args.row.now c.in-Call.from c.in-Call.name c.in-Call.to c.in-Call.mark c.in-Call.is (search rules) c.if-name-opened.false
 
-pub returns-in-default : goal.returns-in-default
-returns-in-default c = enter_else c.args.before c.args.state.pairs (c.args.opened % 16) c.args.step c.args.row.now c.in-default.not-Call
+pub returns-in_default : goal.returns-in_default
+returns-in_default c = enter_else c.args.before c.args.state.pairs (c.args.opened % 16) c.args.step c.args.row.now c.in_default.not-Call

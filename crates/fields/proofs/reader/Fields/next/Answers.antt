@@ -1,17 +1,17 @@
-use Rattle.std.proofs.Common.{length, sym, refl}
+use Rattle.std.proofs.Common.{sym, refl}
 use Rattle.std.proofs.lemmas.Bool.{eqb-true}
 use Rattle.fields.proofs.Here.{left_cut, left_empty, left_stands, left_within}
 use Rattle.fields.proofs.reader.Fields.next.Goals as goal
 
-pub returns-then-is-empty : goal.returns-then-is-empty
-returns-then-is-empty c = record {
-  field = (left_empty c.args.self.now.bytes.now c.args.self.now.place (eqb-true _ 0 (sym c.if-is-empty.ensures)), refl);
+pub returns-then-is_empty : goal.returns-then-is_empty
+returns-then-is_empty c = record {
+  field = (left_empty c.args.self.now.bytes.now c.args.self.now.place (eqb-true _ 0 (sym c.if-is_empty.ensures)), refl);
   file = refl;
   bytes = refl;
 }
 
-pub invariant-of-self : goal.invariant-of-self
-invariant-of-self c = (left_within c.args.self.now.bytes.now c.args.self.now.place c.in-Some.field c.in-Some.used c.args.self.now.within c.in-Some.ensures, tt)
+pub invariant_of-self : goal.invariant_of-self
+invariant_of-self c = record { within = left_within c.args.self.now.bytes.now c.args.self.now.place c.in-Some.field c.in-Some.used c.args.self.now.within c.in-Some.ensures }
 
 pub returns-in-Some : goal.returns-in-Some
 returns-in-Some c = record {

@@ -15,7 +15,7 @@ returns-then-number-len c =
     let l = c.len.ensures in
     let held = v.ok.0 in
     let read = names_read v (vec_items v) c.args.number c.index.result.now refl (omega arith) c.index.ensures in
-    (omega arith, c.as-slice.ensures.value ∙ sym read)
+    (omega arith, c.as_slice.ensures.value ∙ sym read)
 
 pub returns-else-number-len : goal.returns-else-number-len
 returns-else-number-len c =

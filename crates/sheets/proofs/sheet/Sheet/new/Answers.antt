@@ -4,9 +4,16 @@ use Rattle.sheets.proofs.Masks.{has_above, masks_are_sets}
 use Rattle.sheets.proofs.RunWords.{accepts_by_runs}
 use Rattle.sheets.proofs.sheet.Sheet.new.Goals as goal
 
-pub invariant-of-result : goal.invariant-of-result
+pub invariant_of-result : goal.invariant_of-result
 unfolding all_in_range
-invariant-of-result c = (search rules, (search rules, (omega arith, (omega arith, (search rules, (ap (all_in_range 1) c.new.ensures.items, tt))))))
+invariant_of-result c = record {
+  some_states = search rules;
+  few_states = search rules;
+  start_in = omega arith;
+  accepting_in = omega arith;
+  few_moves = search rules;
+  moves_in = ap (all_in_range 1) c.new.ensures.items;
+}
 
 pub returns : goal.returns
 returns c = record {
