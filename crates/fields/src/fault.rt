@@ -1,9 +1,12 @@
 // What can be wrong with a file.
 ghost use Rattle.std.specs.Prelude.{◌≡◌, Some};
 ghost use Rattle.fields.specs.Faults.{told, told_at};
+ghost use Rattle.fields.specs.Texts.{fault_line, fault_text, file_text};
 ghost use Rattle.fields.specs.declared.fault.Fault.TheVariants.{Memory};
 
-use std::alloc::{AllocError, AllocFailed};
+use std::alloc::AllocError;
+use std::error::Error;
+use std::fmt;
 
 /// The kinds of files.
 #[derive(Clone, Copy, PartialEq, Debug)]
@@ -12,12 +15,32 @@ pub enum File {
     Record,
 }
 
+impl fmt::Display for File {
+    ghost output = { λ f. Some (file_text f) };
+
+    fn fmt<W: fmt::Write>(&self, f: &mut fmt::Formatter<W>) -> fmt::Result {
+        match self {
+            File::Names => f.write_str("names"),
+            File::Record => f.write_str("record"),
+        }
+    }
+}
+
 /// Where a fault is: its file, and the offset in it of the field that has the fault. The place of a fault of a list of letters to
 /// be written is the letter's index.
 #[derive(Clone, Copy, PartialEq, Debug)]
 pub struct At {
     pub file: File,
     pub place: usize,
+}
+
+impl File {
+    /// This place of a file of this kind.
+    pub fn at(self, place: usize) -> At
+        ensures { result ≡ record { file = self; place = place } }
+    {
+        At { file: self, place }
+    }
 }
 
 /// What is wrong with a file, or with a list of letters to be written to one.
@@ -50,7 +73,7 @@ pub enum Fault {
 }
 
 /// What a fault tells: its number, the file that it is in, and its place there.
-#[derive(Clone, Copy)]
+#[derive(Clone, Copy, PartialEq, Debug)]
 pub struct Told {
     pub number: u8,
     pub file: File,
@@ -87,20 +110,57 @@ impl Fault {
             Fault::Memory => None,
         }
     }
-}
 
-impl From<AllocError> for Fault {
-    ghost from_gives = { λ _ r. r ≡ Memory };
-
-    fn from(_error: AllocError) -> Fault {
-        Fault::Memory
+    // What is wrong, in words.
+    fn text(self) -> &'static str
+        ensures { result.now ≡ fault_text self }
+    {
+        match self {
+            Fault::NotALetter(_) => "the letter code is above 47",
+            Fault::Cut(_) => "the field is cut by the file's end",
+            Fault::Tag(_) => "the tag is not allowed here",
+            Fault::Length(_) => "the length is wrong for the tag",
+            Fault::Byte(_) => "a byte is not allowed in a name",
+            Fault::Missing(_) => "the file ends with a needed field missing",
+            Fault::Repeated(_) => "the name is listed twice",
+            Fault::TooMany(_) => "there is a 17th name",
+            Fault::Unlisted(_) => "the name is not listed, or there is no name for the number",
+            Fault::TooLong(_) => "the file is too long",
+            Fault::NoRoom(_) => "the buffer is too short, or the record would be too long",
+            Fault::Memory => "there is no memory",
+        }
     }
 }
 
-impl<T: Drop> From<AllocFailed<T>> for Fault {
+/// The line that a program says of a fault.
+impl fmt::Display for Fault {
+    ghost output = { λ e. Some (fault_line e) };
+
+    fn fmt<W: fmt::Write>(&self, f: &mut fmt::Formatter<W>) -> fmt::Result {
+        let text = self.text();
+        match self.told() {
+            Some(
+                Told {
+                    number,
+                    file,
+                    place,
+                },
+            ) => write!(f, "refused {number}, {file} at {place}: {text}"),
+            None => write!(f, "error: {text}"),
+        }
+    }
+}
+
+impl Error for Fault {}
+
+// Of either error of std that says that there was no memory.
+impl<E: Drop> From<E> for Fault
+where
+    AllocError: From<E>,
+{
     ghost from_gives = { λ _ r. r ≡ Memory };
 
-    fn from(_error: AllocFailed<T>) -> Fault {
+    fn from(_error: E) -> Fault {
         Fault::Memory
     }
 }

@@ -3,7 +3,7 @@
 
 #[cfg(test)]
 mod tests {
-    use fields::fault::{At, Fault, File};
+    use fields::fault::{Fault, File};
     use machines::depth::Depth;
     use machines::names::Names;
     use name_list::list::NameList;
@@ -20,10 +20,9 @@ mod tests {
 
     // A fault's number, file and place; none where there was no memory.
     fn told(fault: Fault) -> Option<(u8, File, usize)> {
-        match fault.told() {
-            Some(told) => Some((told.number, told.file, told.place)),
-            None => None,
-        }
+        fault
+            .told()
+            .map(|told| (told.number, told.file, told.place))
     }
 
     // The bytes of a file, and of another behind them.
@@ -98,10 +97,8 @@ mod tests {
         bytes: &[u8],
         heap: Global,
     ) -> Result<usize, Option<(u8, File, usize)>> {
-        match list.load(bytes, heap) {
-            Ok(()) => Ok(list.len()),
-            Err(fault) => Err(told(fault)),
-        }
+        list.load(bytes, heap).map_err(told)?;
+        Ok(list.len())
     }
 
     // A name list with this fault.
@@ -135,10 +132,7 @@ mod tests {
 
     // Whether the name with this number is this one.
     fn named(list: &NameList, number: usize, name: &[u8]) -> bool {
-        match list.name(number) {
-            Some(listed) => listed == name,
-            None => false,
-        }
+        list.name(number) == Some(name)
     }
 
     // A name list whose last name has this number.
@@ -313,26 +307,35 @@ mod tests {
         (b"\x01\x00\x05visit\x02\x00\x04Pass", 19, 8, &[0]),
     ];
 
+    // What reading or writing comes to, where a fault is of a record.
+    type Outcome = Result<usize, (u8, usize)>;
+
+    // Reading or writing from this comes to this outcome, and to this in the buffer.
+    fn comes_to(
+        rt: &impl Abort,
+        from: &[u8],
+        answer: Result<usize, Fault>,
+        outcome: Outcome,
+        buffer: &[u8],
+        left: &[u8],
+    ) {
+        let expected = outcome.map_err(|(number, place)| Some((number, File::Record, place)));
+        assert_eq!(rt; (answer.map_err(told), from), (expected, from));
+        assert_eq!(rt; buffer, left);
+    }
+
     // Reading a record into a buffer of this length, filled with 255, comes to this and leaves this.
     fn reads(
         rt: &impl Abort,
         names: &NameList,
         bytes: &[u8],
-        outcome: Result<usize, (u8, usize)>,
+        outcome: Outcome,
         left: &[u8],
         heap: Global,
     ) -> Result<(), Fail> {
         let mut codes = vec![in heap; 255u8; left.len()]?;
-        let read = match read_record(names, bytes, codes.as_mut_slice()) {
-            Ok(count) => Ok(count),
-            Err(fault) => Err(told(fault)),
-        };
-        let expected = match outcome {
-            Ok(count) => Ok(count),
-            Err((number, place)) => Err(Some((number, File::Record, place))),
-        };
-        assert_eq!(rt; (read, bytes), (expected, bytes));
-        assert_eq!(rt; codes.as_slice(), left);
+        let read = read_record(names, bytes, codes.as_mut_slice());
+        comes_to(rt, bytes, read, outcome, codes.as_slice(), left);
         Ok(())
     }
 
@@ -450,21 +453,13 @@ mod tests {
         rt: &impl Abort,
         names: &NameList,
         codes: &[u8],
-        outcome: Result<usize, (u8, usize)>,
+        outcome: Outcome,
         left: &[u8],
         heap: Global,
     ) -> Result<(), Fail> {
         let mut out = vec![in heap; 255u8; left.len()]?;
-        let written = match write_record(names, codes, out.as_mut_slice()) {
-            Ok(count) => Ok(count),
-            Err(fault) => Err(told(fault)),
-        };
-        let expected = match outcome {
-            Ok(count) => Ok(count),
-            Err((number, place)) => Err(Some((number, File::Record, place))),
-        };
-        assert_eq!(rt; (written, codes), (expected, codes));
-        assert_eq!(rt; out.as_slice(), left);
+        let written = write_record(names, codes, out.as_mut_slice());
+        comes_to(rt, codes, written, outcome, out.as_slice(), left);
         Ok(())
     }
 
@@ -645,18 +640,18 @@ mod tests {
         Ok(())
     }
 
-    type Checked = Result<Standing, (Option<Fault>, Option<Stop>)>;
+    type Checked = Result<Standing, Unchecked>;
 
     fn stands(accepts: bool, open: usize) -> Checked {
         Ok(Standing { accepts, open })
     }
 
     fn faulty(fault: Fault) -> Checked {
-        Err((Some(fault), None))
+        Err(Unchecked::Faulty(fault))
     }
 
     fn refused(letter: usize, refusal: Refusal) -> Checked {
-        Err((None, Some(Stop { letter, refusal })))
+        Err(Unchecked::Refused(Stop { letter, refusal }))
     }
 
     // Checking a record with a machine and this many mark places comes to this and leaves these letters.
@@ -673,17 +668,13 @@ mod tests {
         names.load(NAMES, heap)?;
         let mut codes = vec![in heap; 255u8; left.len()]?;
         let mut marks = mark_row(machine, places, heap)?;
-        let checked = match check_record(
+        let checked = check_record(
             &names,
             bytes,
             machine,
             codes.as_mut_slice(),
             marks.as_mut_slice(),
-        ) {
-            Ok(standing) => Ok(standing),
-            Err(Unchecked::Faulty(fault)) => faulty(fault),
-            Err(Unchecked::Refused(stop)) => refused(stop.letter, stop.refusal),
-        };
+        );
         assert_eq!(rt; (checked, bytes), (outcome, bytes));
         assert_eq!(rt; codes.as_slice(), left);
         Ok(())
@@ -780,14 +771,8 @@ mod tests {
             &[0, 0],
             heap,
         )?;
-        let first = At {
-            file: File::Record,
-            place: 0,
-        };
-        let second = At {
-            file: File::Record,
-            place: 8,
-        };
+        let first = File::Record.at(0);
+        let second = File::Record.at(8);
         checks(
             &rt,
             &Names,

@@ -1,47 +1,36 @@
--- Codes that stand in a buffer.
-use Rattle.std.proofs.Common.{◌≡◌, ℕ, ◌+◌, ◌<◌, ◌≤◌, List, [], ◌∷◌, ◌++◌, map, length, take, drop, set, sym, refl, ap, ◌∙◌, subst, ap₂, add-one, arith}
-use Rattle.std.proofs.lemmas.List.{append_assoc, drop_at, drop-drop, length-append, length-map, length-take-le, map-append, set_split, take-append-drop, take_at}
+-- Codes that stand at the front of a buffer.
+use Rattle.std.proofs.Common.{◌≡◌, ℕ, ◌+◌, ◌<◌, ◌≤◌, List, [], ◌∷◌, ◌++◌, map, length, take, drop, set, sym, refl, ap, ◌∙◌, ap₂, add-one, arith}
+use borrow.Rule.Slice.PartMut.{mid_of, put_mid}
+use Rattle.std.proofs.lemmas.List.{append_assoc, drop-append-le, drop_at, drop-drop, length-append, length-map, map-append, set_split, take_at, take-append-drop}
 use Rattle.nested.specs.Letters.{code_of}
 use Rattle.nested.specs.declared.letter.Letter.{Letter}
 use Rattle.items.specs.Writing.{Stands}
 
--- one letter
-stands_one : (was : List ℕ) (n code : ℕ) (l : Letter) → n < length was → code ≡ code_of l → Stands was n (l ∷ []) (set was n code) (n + 1)
-stands_one was n code l room is =
-    record { place = refl; buffer = set_split was n code room ∙ ap₂ (λ c i. take n was ++ c ∷ drop i was) is (sym (add-one n)) }
+-- what stands behind a word
+module _ (was : List ℕ) (v : List Letter) (now : List ℕ) (n : ℕ) (first : Stands was v now n) where
+  front : take n now ≡ map code_of v
+  front = ap (take n) first.buffer ∙ take_at (map code_of v) (drop n was) n (length-map v code_of ∙ sym first.count)
 
--- no letter
-pub put_nothing : (was : List ℕ) (k : ℕ) (word : List Letter) → word ≡ [] → Stands was k word was k
-put_nothing was k word is =
-    record { place = let none = ap length is in omega arith; buffer = sym (take-append-drop k was) ∙ ap (λ w. take k was ++ (map code_of w ++ drop k was)) (sym is) }
+  rest : drop n now ≡ drop n was
+  rest = ap (drop n) first.buffer ∙ drop_at (map code_of v) (drop n was) n (length-map v code_of ∙ sym first.count)
 
-module _ (was : List ℕ) (k : ℕ) (within : k ≤ length was) where
-  -- a word behind another
-  stands_more : (w v : List Letter) (now next : List ℕ) (n m : ℕ) → Stands was k w now n → Stands now n v next m → Stands was k (w ++ v) next m
-  stands_more w v now next n m s t =
-      let front = take k was ++ map code_of w in
-      let joined : now ≡ front ++ drop n was = s.buffer ∙ sym (append_assoc (take k was) (map code_of w) (drop n was)) in
-      let long : length front ≡ n = length-append (take k was) (map code_of w) ∙ ap₂ ◌+◌ (length-take-le k was within) (length-map w code_of) ∙ sym s.place in
-      let taken : take n now ≡ front = ap (take n) joined ∙ take_at front (drop n was) n long in
-      let left : drop n now ≡ drop n was = ap (drop n) joined ∙ drop_at front (drop n was) n long in
-      let past : (xs : List ℕ) → drop m xs ≡ drop (length v) (drop n xs) = λ xs. ap (λ i. drop i xs) t.place ∙ sym (drop-drop (length v) n xs) in
-      let behind : drop m now ≡ drop m was = past now ∙ ap (drop (length v)) left ∙ sym (past was) in
-      let codes : map code_of w ++ (map code_of v ++ drop m was) ≡ map code_of (w ++ v) ++ drop m was = sym (append_assoc (map code_of w) (map code_of v) (drop m was)) ∙ ap (λ xs. xs ++ drop m was) (sym (map-append code_of w v)) in
-      record {
-        place = let sum = length-append w v in omega arith;
-        buffer = t.buffer ∙ ap₂ (λ a b. a ++ (map code_of v ++ b)) taken behind ∙ append_assoc (take k was) (map code_of w) (map code_of v ++ drop m was) ∙ ap (λ xs. take k was ++ xs) codes;
-      }
+  -- n + m places are written, where a word is written behind the first
+  joined : (w : List Letter) (m : ℕ) → m ≡ length w → (next : List ℕ) → next ≡ take n now ++ (map code_of w ++ drop m (drop n now)) → Stands was (v ++ w) next (n + m)
+  joined w m count next is = record {
+    count = omega (arith, first.count, length-append v w);
+    buffer =
+        is ∙ ap₂ (λ a b. a ++ (map code_of w ++ drop m b)) front rest ∙ ap (λ b. map code_of v ++ (map code_of w ++ b)) (drop-drop m n was)
+        ∙ sym (append_assoc (map code_of v) (map code_of w) (drop (n + m) was)) ∙ ap (λ xs. xs ++ drop (n + m) was) (sym (map-append code_of v w));
+  }
 
-  -- The word of an item, by its ending: what stands in the buffer once its letters are written.
-  module _ (word w : List Letter) (now : List ℕ) (n : ℕ) (first : Stands was k w now n) (room : n < length now) where
-    pub put_one : (l : Letter) (code : ℕ) → word ≡ w ++ l ∷ [] → code ≡ code_of l → Stands was k word (set now n code) (n + 1)
-    put_one l code is coded =
-        subst (λ xs. Stands was k xs (set now n code) (n + 1)) (sym is) (stands_more w (l ∷ []) now (set now n code) n (n + 1) first (stands_one now n code l room coded))
+  -- one letter more
+  pub put_letter : (l : Letter) (code : ℕ) → n < length now → code ≡ code_of l → Stands was (v ++ l ∷ []) (set now n code) (n + 1)
+  put_letter l code room is = joined (l ∷ []) 1 refl (set now n code)
+      (set_split now n code room ∙ ap₂ (λ c b. take n now ++ c ∷ b) is (ap (λ i. drop i now) (sym (add-one n)) ∙ sym (drop-drop 1 n now)))
 
-    pub put_pair : (a b : Letter) (opened closed : ℕ) (v : List Letter) (next : List ℕ) (m : ℕ) → Stands (set now n opened) (n + 1) v next m → m < length next → word ≡ w ++ a ∷ (v ++ b ∷ []) → opened ≡ code_of a → closed ≡ code_of b → Stands was k word (set next m closed) (m + 1)
-    put_pair a b opened closed v next m second room' is coded coded' =
-        let called = stands_more w (a ∷ []) now (set now n opened) n (n + 1) first (stands_one now n opened a room coded) in
-        let inner = stands_more (w ++ a ∷ []) v (set now n opened) next (n + 1) m called second in
-        let returned = stands_more ((w ++ a ∷ []) ++ v) (b ∷ []) next (set next m closed) m (m + 1) inner (stands_one next m closed b room' coded') in
-        let joined = append_assoc (w ++ a ∷ []) v (b ∷ []) ∙ append_assoc w (a ∷ []) (v ++ b ∷ []) in
-        subst (λ xs. Stands was k xs (set next m closed) (m + 1)) (joined ∙ sym is) returned
+  -- a word, written to what is left of the buffer
+  pub put_behind : (k : ℕ) (w : List Letter) (part : List ℕ) (m : ℕ) → Stands (mid_of n k now) w part m → m ≤ length (mid_of n k now) → Stands was (v ++ w) (put_mid n k now part) (n + m)
+  put_behind k w part m second room = joined w m second.count (put_mid n k now part) (ap (λ xs. take n now ++ xs)
+      (ap (λ xs. xs ++ drop k (drop n now)) second.buffer
+      ∙ append_assoc (map code_of w) (drop m (mid_of n k now)) (drop k (drop n now))
+      ∙ ap (λ xs. map code_of w ++ xs) (sym (drop-append-le m (mid_of n k now) (drop k (drop n now)) room) ∙ ap (drop m) (take-append-drop k (drop n now)))))

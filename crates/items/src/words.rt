@@ -1,14 +1,35 @@
 // The whole word of an item, unwound from the makings: its length, and its codes in a buffer.
 ghost use Rattle.std.specs.Prelude.{◌≡◌, ◌+◌, ◌≤◌, min, length};
-ghost use Rattle.items.specs.Endings.{Ends, ending, part_of};
+ghost use Rattle.items.specs.Endings.{Ends, ending, letters_of};
 ghost use Rattle.items.specs.Words.{how_at, word_of, word_parts};
 ghost use Rattle.items.specs.Writing.{Stands, Writes};
+ghost use Rattle.items.specs.declared.words.Part.TheVariants.{Whole, Local};
 
 use crate::making::{How, Making};
 use nested::letter::Letter;
+use std::error::Error;
+use std::fmt;
 
 /// The most letters that a word is written with.
 pub const LONGEST_WORD: usize = 1024;
+
+/// That a word is longer than 1,024 letters or than the buffer: how many letters it has, or 1,025 where it has more than 1,024.
+#[derive(Clone, Copy, PartialEq, Eq, Debug)]
+pub struct TooLong {
+    pub length: usize,
+}
+
+impl fmt::Display for TooLong {
+    fn fmt<W: fmt::Write>(&self, f: &mut fmt::Formatter<W>) -> fmt::Result {
+        if self.length > LONGEST_WORD {
+            write!(f, "the word has more than {LONGEST_WORD} letters")
+        } else {
+            write!(f, "the buffer is too short for {} letters", self.length)
+        }
+    }
+}
+
+impl Error for TooLong {}
 
 // The whole word of an item, or its local word: what stands behind the latest call that is open.
 #[derive(Clone, Copy)]
@@ -17,11 +38,10 @@ enum Part {
     Local,
 }
 
-// How the word of an item ends: it is empty; or a letter stands behind the same part of an item's word; or a call, the local word of
-// a second item and a return do.
+// How a word that is not empty ends: a letter stands behind the same part of an item's word; or a call, the local word of a second item
+// and a return do.
 #[derive(Clone, Copy)]
 enum Ending {
-    Nothing,
     One {
         from: usize,
         letter: Letter,
@@ -34,96 +54,130 @@ enum Ending {
     },
 }
 
-// How the item with this number was made; one that the row does not have is begun.
-fn how_of(makings: &[Making], number: usize) -> How
-    ensures { result ≡ how_at makings.now number }
-{
-    if number < makings.len() {
-        makings[number].how
-    } else {
-        How::Begun
-    }
+// The word of the item with this number, or a part of it.
+#[derive(Clone, Copy)]
+struct Word<'a> {
+    makings: &'a [Making],
+    number: usize,
+    part: Part,
 }
 
 // How the word of an item that was made so ends.
-fn ending_by(how: How, part: Part, number: usize) -> Ending
+fn ending_by(how: How, part: Part, number: usize) -> Option<Ending>
     ensures { result ≡ ending part number how }
 {
-    match (how, part) {
-        (How::Stepped { from, letter }, _) if from < number => Ending::One { from, letter },
-        (How::Entered { from, name }, Part::Whole) if from < number => Ending::One {
-            from,
-            letter: Letter::Call(name),
+    match how {
+        How::Stepped { from, letter } if from < number => Some(Ending::One { from, letter }),
+        How::Entered { from, name } if from < number => match part {
+            Part::Whole => Some(Ending::One {
+                from,
+                letter: Letter::Call(name),
+            }),
+            Part::Local => None,
         },
-        (
-            How::Matched {
+        How::Matched {
+            first,
+            second,
+            opened,
+            name,
+        } if first < number && second < number => Some(Ending::Pair {
+            first,
+            second,
+            opened,
+            name,
+        }),
+        _ => None,
+    }
+}
+
+impl<'a> Word<'a> {
+    // The whole word of an item.
+    fn whole(makings: &'a [Making], number: usize) -> Word<'a>
+        ensures { result ≡ record { makings = makings.entry; number = number; part = Whole } }
+    {
+        Word {
+            makings,
+            number,
+            part: Part::Whole,
+        }
+    }
+
+    // The same part of another item's word.
+    fn of(self, number: usize) -> Word<'a>
+        ensures { result ≡ record self.entry { number = number } }
+    {
+        Word { number, ..self }
+    }
+
+    // The local word of another item.
+    fn local(self, number: usize) -> Word<'a>
+        ensures { result ≡ record self.entry { number = number; part = Local } }
+    {
+        Word {
+            number,
+            part: Part::Local,
+            ..self
+        }
+    }
+
+    // How the word ends, or `None` where it is empty. An item that the row does not have is begun.
+    fn ending(self) -> Option<Ending>
+        ensures { Ends (word_parts self.entry.makings.now) self.entry.part self.entry.number result }
+    {
+        let made = self.makings.get(self.number);
+        ending_by(made.map_or(How::Begun, |m| m.how), self.part, self.number)
+    }
+
+    // How many letters the word has, or `room + 1` where it has more than `room`. Each letter is taken off the room before the next call,
+    // so there are at most `room + 1` calls in all, however long the word is.
+    fn length_within(self, room: usize) -> usize
+        requires { room ≤ 1024 }
+        ensures { result ≡ min (length (letters_of self.entry.makings.now self.entry.part self.entry.number)) (room + 1) }
+    {
+        let Some(ending) = self.ending() else {
+            return 0;
+        };
+        match ending {
+            Ending::One { .. } if room == 0 => 1,
+            Ending::One { from, .. } => 1 + self.of(from).length_within(room - 1),
+            Ending::Pair { .. } if room < 2 => room + 1,
+            Ending::Pair { first, second, .. } => {
+                let inner = self.local(second).length_within(room - 2);
+                if inner > room - 2 {
+                    return room + 1;
+                }
+                2 + inner + self.of(first).length_within(room - 2 - inner)
+            }
+        }
+    }
+
+    // Writes the codes of the word to the front of a buffer, and answers how many there are.
+    fn put(self, out: &mut [u8]) -> usize
+        requires { length (letters_of self.makings.now self.part self.number) ≤ length out.old }
+        ensures { Stands out.old (letters_of self.entry.makings.now self.entry.part self.entry.number) out.new result }
+    {
+        let Some(ending) = self.ending() else {
+            return 0;
+        };
+        match ending {
+            Ending::One { from, letter } => {
+                let last = self.of(from).put(out);
+                out[last] = u8::from(letter);
+                last + 1
+            }
+            Ending::Pair {
                 first,
                 second,
                 opened,
                 name,
-            },
-            _,
-        ) if first < number && second < number => Ending::Pair {
-            first,
-            second,
-            opened,
-            name,
-        },
-        _ => Ending::Nothing,
-    }
-}
-
-// How the word of an item ends.
-fn ending_of(makings: &[Making], number: usize, part: Part) -> Ending
-    ensures { Ends (word_parts makings.now) part number result }
-{
-    ending_by(how_of(makings, number), part, number)
-}
-
-// How many letters the word has, or `room + 1` where it has more than `room`. Each letter is taken off the room before the next call,
-// so there are at most `room + 1` calls in all, however long the word is.
-fn length_within(makings: &[Making], number: usize, part: Part, room: usize) -> usize
-    requires { room ≤ 1024 }
-    ensures { result ≡ min (length (part_of part (word_parts makings.now number))) (room + 1) }
-{
-    match ending_of(makings, number, part) {
-        Ending::Nothing => 0,
-        Ending::One { .. } if room == 0 => 1,
-        Ending::One { from, .. } => 1 + length_within(makings, from, part, room - 1),
-        Ending::Pair { .. } if room < 2 => room + 1,
-        Ending::Pair { first, second, .. } => {
-            let inner = length_within(makings, second, Part::Local, room - 2);
-            if inner > room - 2 {
-                return room + 1;
+            } => {
+                let call = self.of(first).put(out);
+                out[call] = u8::from(Letter::Call(opened));
+                let inner = self.local(second).put(&mut out[call + 1..]);
+                let last = call + 1 + inner;
+                out[last] = u8::from(Letter::Return(name));
+                last + 1
             }
-            2 + inner + length_within(makings, first, part, room - 2 - inner)
-        }
-    }
-}
-
-// Writes the codes of the word from the place `at` on, where there is room for them, and answers the place behind them.
-fn put_word(makings: &[Making], number: usize, part: Part, at: usize, out: &mut [u8]) -> usize
-    requires { at + length (part_of part (word_parts makings.now number)) ≤ length out.old }
-    ensures { Stands out.old at (part_of part (word_parts makings.now number)) out.new result }
-{
-    match ending_of(makings, number, part) {
-        Ending::Nothing => at,
-        Ending::One { from, letter } => {
-            let place = put_word(makings, from, part, at, out);
-            out[place] = letter.code();
-            place + 1
-        }
-        Ending::Pair {
-            first,
-            second,
-            opened,
-            name,
-        } => {
-            let call = put_word(makings, first, part, at, out);
-            out[call] = Letter::Call(opened).code();
-            let place = put_word(makings, second, Part::Local, call + 1, out);
-            out[place] = Letter::Return(name).code();
-            place + 1
         }
     }
 }
@@ -134,19 +188,19 @@ fn put_word(makings: &[Making], number: usize, part: Part, at: usize, out: &mut 
 pub fn word_length(makings: &[Making], number: usize) -> usize
     ensures { result ≡ min (length (word_of makings.now number)) 1025 }
 {
-    length_within(makings, number, Part::Whole, LONGEST_WORD)
+    Word::whole(makings, number).length_within(LONGEST_WORD)
 }
 
 /// Writes the codes of the whole word of the item with this number to the front of a buffer, and answers how many there are.
 ///
-/// Where the word is longer than 1,024 letters or than the buffer, the answer is an error with what `word_length` answers, and the
-/// buffer is as it was. Otherwise the rest of the buffer is as it was.
-pub fn write_word(makings: &[Making], number: usize, out: &mut [u8]) -> Result<usize, usize>
+/// Where the word is longer than 1,024 letters or than the buffer, the error has what `word_length` answers, and the buffer is as it
+/// was. Otherwise the rest of the buffer is as it was.
+pub fn write_word(makings: &[Making], number: usize, out: &mut [u8]) -> Result<usize, TooLong>
     ensures { Writes makings.now number out.old out.new result }
 {
     let length = word_length(makings, number);
     if length > out.len().min(LONGEST_WORD) {
-        return Err(length);
+        return Err(TooLong { length });
     }
-    Ok(put_word(makings, number, Part::Whole, 0, out))
+    Ok(Word::whole(makings, number).put(out))
 }

@@ -2,7 +2,7 @@
 #![tactic(auto)]
 
 ghost use Rattle.std.specs.Prelude.{◌≡◌, Bool, ◌&&◌, ◌||◌};
-ghost use Rattle.layers.specs.Layers.{AcceptsJoined, AcceptsOthers, not_automaton, same_pair, side_by_side};
+ghost use Rattle.layers.specs.Layers.{AcceptsJoined, AcceptsOthers, not_automaton, side_by_side};
 ghost use Rattle.std.proofs.Common.{rules};
 
 use nested::machine::Machine;
@@ -26,6 +26,7 @@ pub type Both<A, B> = Pair<A, B, And>;
 pub type Either<A, B> = Pair<A, B, Or>;
 
 /// When a pair of machines accepts, by what the two say.
+// A trait, not a closure: `Both` and `Either` need types that can be named, and a closure's cannot.
 pub trait Join {
     ghost joined: { Bool → Bool → Bool };
 
@@ -33,10 +34,10 @@ pub trait Join {
         ensures { result ≡ joined first second };
 }
 
-#[derive(Drop)]
+#[derive(Clone, Copy, Debug, PartialEq, Eq, Hash)]
 pub struct And;
 
-#[derive(Drop)]
+#[derive(Clone, Copy, Debug, PartialEq, Eq, Hash)]
 pub struct Or;
 
 impl Join for And {
@@ -57,6 +58,7 @@ impl Join for Or {
 
 impl<M: Machine> Not<M> {
     /// The complement: it accepts exactly the words that `machine` does not.
+    #[tactic(auto, using(crate::proofs::LayerWords::accepts_others))]
     pub fn new(machine: M) -> Not<M>
         ensures machine { result.0 ≡ machine }
         ensures words { AcceptsOthers (M.Machine.meaning machine) }
@@ -67,6 +69,7 @@ impl<M: Machine> Not<M> {
 
 impl<A: Machine, B: Machine, J: Join> Pair<A, B, J> {
     /// Two machines side by side: whether the pair accepts a word is told by `join` from whether the two do.
+    #[tactic(auto, using(crate::proofs::LayerWords::accepts_joined))]
     pub fn new(first: A, second: B, join: J) -> Pair<A, B, J>
         ensures machines { (result.first ≡ first) × (result.second ≡ second) × (result.join ≡ join) }
         ensures words { AcceptsJoined J.Join.joined (A.Machine.meaning first) (B.Machine.meaning second) }
@@ -104,8 +107,6 @@ impl<M: Machine> Machine for Not<M> {
 
     ghost meaning = { λ m. not_automaton (M.Machine.meaning m.0) };
 
-    ghost equal = { λ m. M.Machine.equal m.0 };
-
     ghost equal_only = { Prim.search rules };
 
     ghost equal_itself = { Prim.search rules };
@@ -133,10 +134,6 @@ impl<M: Machine> Machine for Not<M> {
     fn accepts(&self, state: M::State) -> bool {
         !self.0.accepts(state)
     }
-
-    fn same(&self, left: M::State, right: M::State) -> bool {
-        self.0.same(left, right)
-    }
 }
 
 impl<A: Machine, B: Machine, J: Join> Machine for Pair<A, B, J> {
@@ -144,55 +141,43 @@ impl<A: Machine, B: Machine, J: Join> Machine for Pair<A, B, J> {
 
     ghost meaning = { λ m. side_by_side J.Join.joined (A.Machine.meaning m.first) (B.Machine.meaning m.second) };
 
-    ghost equal = { λ m. same_pair (A.Machine.equal m.first) (B.Machine.equal m.second) };
-
     ghost equal_only = { Prim.search rules };
 
     ghost equal_itself = { Prim.search rules };
 
-    fn start(&self) -> (A::State, B::State) {
+    fn start(&self) -> Self::State {
         (self.first.start(), self.second.start())
     }
 
-    fn internal(&self, state: (A::State, B::State), name: u8) -> (A::State, B::State) {
+    fn internal(&self, state: Self::State, name: u8) -> Self::State {
         (
             self.first.internal(state.0, name),
             self.second.internal(state.1, name),
         )
     }
 
-    fn call(&self, state: (A::State, B::State), name: u8) -> (A::State, B::State) {
+    fn call(&self, state: Self::State, name: u8) -> Self::State {
         (
             self.first.call(state.0, name),
             self.second.call(state.1, name),
         )
     }
 
-    fn ret(
-        &self,
-        state: (A::State, B::State),
-        before: (A::State, B::State),
-        opened: u8,
-        name: u8,
-    ) -> (A::State, B::State) {
+    fn ret(&self, state: Self::State, before: Self::State, opened: u8, name: u8) -> Self::State {
         let first = self.first.ret(state.0, before.0, opened, name);
         let second = self.second.ret(state.1, before.1, opened, name);
         (first, second)
     }
 
-    fn pending(&self, state: (A::State, B::State), name: u8) -> (A::State, B::State) {
+    fn pending(&self, state: Self::State, name: u8) -> Self::State {
         (
             self.first.pending(state.0, name),
             self.second.pending(state.1, name),
         )
     }
 
-    fn accepts(&self, state: (A::State, B::State)) -> bool {
+    fn accepts(&self, state: Self::State) -> bool {
         self.join
             .join(self.first.accepts(state.0), self.second.accepts(state.1))
-    }
-
-    fn same(&self, left: (A::State, B::State), right: (A::State, B::State)) -> bool {
-        self.first.same(left.0, right.0) && self.second.same(left.1, right.1)
     }
 }

@@ -1,6 +1,6 @@
 -- Which words the depth machine accepts.
-use Rattle.std.proofs.Common.{◌≡◌, ℕ, zero, suc, ◌+◌, ◌%◌, ◌≤◌, min, ◌↔◌, List, [], ◌∷◌, length, take, sym, refl, ap, ◌∙◌, subst, arith}
-use Rattle.nested.proofs.Counts.{opens, opens_call, opens_return, opens_internal}
+use Rattle.std.proofs.Common.{◌≡◌, ℕ, zero, suc, ◌+◌, ◌%◌, ◌≤◌, min, ◌↔◌, List, [], ◌∷◌, length, take, refl, arith}
+use Rattle.nested.proofs.Counts.{opens, opens_call, opens_return, opens_pending, opens_internal}
 use Rattle.std.proofs.lemmas.Bool.{leb-true, le-leb}
 use Rattle.nested.specs.Reading.{pending_returns, read, read_from, read_letter, unclosed_calls}
 use Rattle.nested.specs.declared.letter.Letter.{Letter}
@@ -33,12 +33,12 @@ module _ (k : ℕ) where
   -- the first letter takes n open calls to m
   at_most_more : (n m : ℕ) (l : Letter) (w : List Letter) → ((v : List Letter) → opens n (l ∷ v) ≡ opens m v) → AtMost n (l ∷ w) ↔ ((n ≤ k) × AtMost m w)
   at_most_more n m l w step = (
-    λ h. (subst (λ x. x ≤ k) (at_most_none n) (h 0), λ i. subst (λ x. x ≤ k) (step (take i w)) (h (suc i))),
-    λ h. elim [ zero ↦ subst (λ x. x ≤ k) (sym (at_most_none n)) h.0 | suc i ↦ subst (λ x. x ≤ k) (sym (step (take i w))) (h.1 i) ],
+    λ h. (rw at_most_none at (h 0), λ i. rw step at (h (suc i))),
+    λ h. elim [ zero ↦ rw at_most_none h.0 | suc i ↦ rw step (h.1 i) ],
   )
 
   fair_open : (s : DepthState) (ms : List (Mark DepthState)) → Fair s ms → s.most ≤ k → length ms ≤ k
-  fair_open s ms fair h = let d = fair.depth in let m = fair.most in omega arith
+  fair_open s ms fair h = omega arith
 
   abbrev Stays : DepthState → List (Mark DepthState) → List Letter → Type 0
   Stays s ms w = ((read_from (depth_automaton k) (record { state = s; marks = ms }) w).state.most ≤ k) ↔ ((s.most ≤ k) × AtMost (length ms) w)
@@ -47,54 +47,37 @@ module _ (k : ℕ) where
   stays_more : (s t : DepthState) (ms ns : List (Mark DepthState)) (l : Letter) (w : List Letter) → Fair s ms → (t.most ≤ k) ↔ ((s.most ≤ k) × (length ns ≤ k)) → ((v : List Letter) → opens (length ms) (l ∷ v) ≡ opens (length ns) v) → read_letter (depth_automaton k) (record { state = s; marks = ms }) l ≡ record { state = t; marks = ns } → Stays t ns w → Stays s ms (l ∷ w)
   unfolding read_from
   stays_more s t ms ns l w fair most step leads later =
-      let A = depth_automaton k in
-      let e : (read_from A (read_letter A (record { state = s; marks = ms }) l) w).state.most ≡ (read_from A (record { state = t; marks = ns }) w).state.most = ap (λ c. (read_from A c w).state.most) leads in (
-        λ h.
-            let ahead = later.0 (subst (λ n. n ≤ k) e h) in
-            let below = most.0 ahead.0 in
-            (below.0, (at_most_more (length ms) (length ns) l w step).1 (fair_open s ms fair below.0, ahead.1)),
-        λ h.
-            let ahead = ((at_most_more (length ms) (length ns) l w step).0 h.1).1 in
-            let open_now = subst (λ n. n ≤ k) (at_most_none (length ns)) (ahead 0) in
-            subst (λ n. n ≤ k) (sym e) (later.1 (most.1 (h.0, open_now), ahead)),
+      let first = at_most_more (length ms) (length ns) l w step in
+      rw (leads, read_from) (
+        λ h. let (now, ahead) = later.0 h in let (below, _) = most.0 now in (below, first.1 (fair_open s ms fair below, ahead)),
+        λ h. let ahead = (first.0 h.1).1 in later.1 (most.1 (h.0, rw at_most_none at (ahead 0)), ahead),
       )
 
   stays : (s : DepthState) (ms : List (Mark DepthState)) → Fair s ms → (w : List Letter) → Stays s ms w
   unfolding read_from
-  stays s ms fair [] = (
-    λ h. (h, elim [ zero ↦ subst (λ n. n ≤ k) (sym (at_most_none (length ms))) (fair_open s ms fair h) | suc i ↦ subst (λ n. n ≤ k) (sym (at_most_none (length ms))) (fair_open s ms fair h) ]),
-    λ h. h.0,
-  )
+  stays s ms fair [] = (λ h. let n = fair_open s ms fair h in (h, elim [ zero ↦ rw at_most_none n | suc i ↦ rw at_most_none n ]), λ h. h.0)
   stays s ms fair (Call a ∷ w) =
-      let A = depth_automaton k in
-      let d = fair.depth in
-      let m = fair.most in
-      let t : DepthState = A.call s (a % 16) in
-      let ns : List (Mark DepthState) = record { state = s; name = a } ∷ ms in
-      stays_more s t ms ns (Call a) w fair
+      let t = (depth_automaton k).call s (a % 16) in
+      stays_more s t ms (record { state = s; name = a } ∷ ms) (Call a) w fair
       (λ h. (omega arith, omega arith), λ h. omega arith)
-      (λ v. opens_call (length ms) a v ∙ ap (λ n. opens n v) (omega arith)) refl
-      (stays t ns (record { depth = omega arith; most = omega arith; marks = (fair.depth, fair.marks) }) w)
+      (opens_call (length ms) a) refl
+      (stays t _ (record { depth = omega arith; most = omega arith; marks = (fair.depth, fair.marks) }) w)
   stays s [] fair (Return b ∷ w) =
       stays_more s s [] [] (Return b) w fair
       (λ h. (h, omega arith), λ h. h.0)
-      (λ v. opens_return 0 b v) refl
+      (opens_pending b) refl
       (stays s [] fair w)
   stays s (m ∷ ms) fair (Return b ∷ w) =
-      let d = fair.depth in
-      let e = fair.most in
-      let before = fair.marks.0 in
-      let t : DepthState = at_depth m.state.depth s.most in
+      let (before, under) = fair.marks in
+      let t = at_depth m.state.depth s.most in
       stays_more s t (m ∷ ms) ms (Return b) w fair
       (λ h. (h, omega arith), λ h. h.0)
-      (λ v. opens_return (length (m ∷ ms)) b v ∙ ap (λ n. opens n v) (omega arith)) refl
-      (stays t ms (record { depth = before; most = omega arith; marks = fair.marks.1 }) w)
+      (opens_return (length ms) b) refl
+      (stays t ms (record { depth = before; most = omega arith; marks = under }) w)
   stays s ms fair (Internal a ∷ w) =
-      let d = fair.depth in
-      let m = fair.most in
       stays_more s s ms ms (Internal a) w fair
       (λ h. (h, omega arith), λ h. h.0)
-      (λ v. opens_internal (length ms) a v) refl
+      (opens_internal (length ms) a) refl
       (stays s ms fair w)
 
   pub accepts_within : AcceptsWithin k

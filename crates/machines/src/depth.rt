@@ -1,19 +1,19 @@
 // The machine that bounds how many calls are open at once.
 ghost use Rattle.std.specs.Prelude.{◌≡◌, ◌≤◌, min};
-ghost use Rattle.machines.specs.Depth.{AcceptsWithin, depth_automaton, same_state};
+ghost use Rattle.machines.specs.Depth.{AcceptsWithin, depth_automaton};
 ghost use Rattle.std.proofs.Common.{rules, arith};
 
 use nested::machine::Machine;
 
 /// Accepts a word if at most `k` calls are open at any point of it.
-#[derive(Clone, Copy)]
+#[derive(Clone, Copy, Debug, PartialEq, Eq, Hash)]
 pub struct Depth {
     k: u8,
     ghost small: { k ≤ 15 },
 }
 
 /// How many calls are open, held at one more than the bound, and the most that were open so far.
-#[derive(Clone, Copy, PartialEq)]
+#[derive(Clone, Copy, Debug, PartialEq, Eq, Hash)]
 pub struct DepthState {
     pub depth: u8,
     pub most: u8,
@@ -22,6 +22,7 @@ pub struct DepthState {
 impl Depth {
     /// Depth `k`, for a `k` from 0 to 15; a larger one counts as 15. It accepts exactly the words in which at no point more than `k`
     /// calls are open.
+    #[tactic(auto, using(crate::proofs::DepthWords::accepts_within))]
     pub fn new(k: u8) -> Depth
         ensures bound { result.k ≡ min k 15 }
         ensures words { AcceptsWithin result.k }
@@ -35,11 +36,9 @@ impl Machine for Depth {
 
     ghost meaning = { λ d. depth_automaton d.k };
 
-    ghost equal = { λ _ s u. same_state s u };
+    ghost equal_only = { Prim.search rules };
 
-    ghost equal_only = { first_of (Prim.search rules, Prim.grind (arith, Self.row.coded.inj)) };
-
-    ghost equal_itself = { first_of (Prim.search rules, Prim.grind (arith, Self.row.coded.inj)) };
+    ghost equal_itself = { Prim.search rules };
 
     fn start(&self) -> DepthState {
         DepthState { depth: 0, most: 0 }
@@ -70,9 +69,5 @@ impl Machine for Depth {
 
     fn accepts(&self, state: DepthState) -> bool {
         state.most <= self.k
-    }
-
-    fn same(&self, left: DepthState, right: DepthState) -> bool {
-        left == right
     }
 }

@@ -1,16 +1,16 @@
 // The machine that holds each return to the name of its call.
 ghost use Rattle.std.specs.Prelude.{◌≡◌};
-ghost use Rattle.machines.specs.Names.{AcceptsAgreeing, names, same_state};
+ghost use Rattle.machines.specs.Names.{AcceptsAgreeing, names};
 ghost use Rattle.std.proofs.Common.{rules};
 
 use nested::machine::Machine;
 
 /// Accepts a word if each return that closes a call has the name of that call.
-#[derive(Clone, Copy)]
+#[derive(Clone, Copy, Debug, PartialEq, Eq, Hash)]
 pub struct Names;
 
 /// Whether every return so far agreed with its call.
-#[derive(Clone, Copy, PartialEq)]
+#[derive(Clone, Copy, Debug, PartialEq, Eq, Hash)]
 pub enum NamesState {
     Ok,
     Broken,
@@ -18,6 +18,7 @@ pub enum NamesState {
 
 impl Names {
     /// The machine that accepts exactly the words in which each return that closes a call has the name of that call.
+    #[tactic(auto, using(crate::proofs::NamesWords::accepts_agreeing))]
     pub fn new() -> Names
         ensures { AcceptsAgreeing }
     {
@@ -29,8 +30,6 @@ impl Machine for Names {
     type State = NamesState;
 
     ghost meaning = { λ _. names };
-
-    ghost equal = { λ _ s u. same_state s u };
 
     ghost equal_only = { Prim.search rules };
 
@@ -61,13 +60,6 @@ impl Machine for Names {
     }
 
     fn accepts(&self, state: NamesState) -> bool {
-        match state {
-            NamesState::Ok => true,
-            NamesState::Broken => false,
-        }
-    }
-
-    fn same(&self, left: NamesState, right: NamesState) -> bool {
-        left == right
+        state == NamesState::Ok
     }
 }

@@ -1,11 +1,14 @@
 -- How a field behind some names is judged.
-use Rattle.std.proofs.Common.{◌≡◌, ℕ, ◌<◌, ◌≤◌, true, false, not, List, map, length, is_some, Some, None, Option, sym, ap, ◌∙◌, subst}
+use Rattle.std.proofs.Common.{◌≡◌, ℕ, ◌<◌, ◌≤◌, true, false, not, List, map, length, is_some, Some, None, Option, sym, refl, ap, arith, ◌∙◌, subst}
 use Rattle.std.proofs.lemmas.List.{length-map}
-use Rattle.std.proofs.lemmas.Bool.{cond-false, cond-true, le-leb, lt-leb, ne_eqb}
+use Rattle.std.proofs.lemmas.Bool.{both_ways, cond-false, cond-true, le-leb, lt-leb, ne_eqb}
+use Rattle.fields.specs.Faults.{told_at}
+use Rattle.fields.specs.declared.fault.At.{At}
 use Rattle.fields.specs.declared.fault.Told.{Told}
 use Rattle.fields.proofs.Telling.{number_told}
 use Rattle.fields.specs.Fields.{Piece}
-use Rattle.fields.specs.Parts.{field_of, part_of, piece_of, tag_of}
+use Rattle.fields.specs.Parts.{part_of, piece_of, tag_of}
+use Rattle.fields.specs.Tags.{known_tag}
 use Rattle.fields.specs.declared.fault.File.TheVariants.{Names}
 use Rattle.fields.specs.declared.field.Field.{Field}
 use Rattle.fields.specs.declared.field.Field.TheVariants as case
@@ -52,13 +55,17 @@ module _ (ns : List Name) where
   abbrev Tells : Piece → ℕ → Option Told → Type 0
   Tells f place t = (is_some (names_format (map name_field ns) f) ≡ true) × (t ≡ names_fault place (names_format (map name_field ns) f))
 
-  pub fault_told : (f : Piece) (place k : ℕ) (t : Option Told) → names_format (map name_field ns) f ≡ Some k → t ≡ names_fault place (Some k) → Tells f place t
-  fault_told f place k t fault says = number_told Names place k (names_format (map name_field ns) f) t fault says
+  pub fault_told : (field : Field) (q : Part) (at : At) (k : ℕ) → q ≡ part_of field → at ≡ record { file = Names; place = q.place } → names_format (map name_field ns) (piece_of field) ≡ Some k → Tells (piece_of field) (part_of field).place (Some (told_at k at))
+  fault_told field q at k part is fault = number_told Names (part_of field).place k _ _ fault (ap (λ a. Some (told_at k a)) (is ∙ ap (λ p. record { file = Names; place = p.place }) part))
 
   -- the same of a field in its case
-  pub name_fault_told : (field : Field) (p : Part) (k : ℕ) (t : Option Told) → field ≡ case.Name p → names_format (map name_field ns) (piece_of (case.Name p)) ≡ Some k → t ≡ names_fault p.place (Some k) → Tells (piece_of field) (part_of field).place t
-  name_fault_told field p k t is fault says = subst (λ x. Tells (piece_of x) (part_of x).place t) (sym is) (fault_told (piece_of (case.Name p)) p.place k t fault says)
+  pub name_fault_told : (field : Field) (q : Part) (at : At) (k : ℕ) → q ≡ part_of field → at ≡ record { file = Names; place = q.place } → (p : Part) → field ≡ case.Name p → names_format (map name_field ns) (name_field p.contents.now) ≡ Some k → Tells (piece_of field) (part_of field).place (Some (told_at k at))
+  name_fault_told field q at k part is p named fault = fault_told field q at k part is (ap (λ x. names_format (map name_field ns) (piece_of x)) named ∙ fault)
 
 -- a field whose case is not that of a name has another tag
-pub other_tag : (field : Field) → field ≡ field_of (tag_of field) (part_of field) → ((p : Part) → field ≡ case.Name p → ⊥) → tag_of field ≡ 16 → ⊥
-other_tag field is other tag = other (part_of field) (is ∙ ap (λ t. field_of t (part_of field)) tag)
+pub other_tag : (field : Field) → ((p : Part) → field ≡ case.Name p → ⊥) → tag_of field ≡ 16 → ⊥
+other_tag (case.Call p) other tag = omega arith
+other_tag (case.Return p) other tag = omega arith
+other_tag (case.Internal p) other tag = omega arith
+other_tag (case.Name p) other tag = other p refl
+other_tag (case.Other t p) other tag = both_ways _ t.other (ap known_tag tag)

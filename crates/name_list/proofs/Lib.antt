@@ -1,4 +1,3 @@
-pub mod Bytes
 pub mod Held
 pub mod Judging
 pub mod Loading

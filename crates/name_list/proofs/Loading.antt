@@ -1,5 +1,5 @@
 -- Reading a name list field by field.
-use Rattle.std.proofs.Common.{◌≡◌, ℕ, ◌<◌, ◌≤◌, true, not, ltb, List, [], ◌∷◌, ◌++◌, map, length, drop, is_some, Some, None, sym, refl, ap, ◌∙◌, subst, arith}
+use Rattle.std.proofs.Common.{◌≡◌, ℕ, ◌+◌, ◌<◌, ◌≤◌, true, not, ltb, List, [], ◌∷◌, ◌++◌, map, length, drop, is_some, Some, None, sym, refl, ap, ◌∙◌, subst, arith}
 use Rattle.std.proofs.lemmas.List.{append_assoc, length-map, length_push, map-append}
 use Rattle.std.proofs.lemmas.Bool.{and_from, cases_Bool, cond-false, cond-true, le-ltb, lt-ltb}
 use Rattle.std.proofs.lemmas.Bool.Decides.{nat_tests}
@@ -12,7 +12,7 @@ use Rattle.fields.specs.Parts.{Stands, part_of, piece_of}
 use Rattle.fields.specs.declared.fault.Fault.{Fault}
 use Rattle.fields.specs.declared.field.Field.{Field}
 use Rattle.name_list.specs.Names.{Lists, ListsNone, Name, listable, listable_behind, name_bytes, name_field, names_format, names_in, number_of, names_fault}
-use Rattle.name_list.proofs.Numbers.{names_in_fields}
+use Rattle.name_list.proofs.Numbers.{first_listable, names_in_fields}
 
 -- the names stand in order in front of the file, up to `place`
 abbrev pub ReadSoFar : List ℕ → ℕ → List Name → Type 0
@@ -27,6 +27,19 @@ in_order_name ns f free =
     let many = length-map ns name_field in
     let tag : f.tag ≡ 16 = grind (arith, nat_tests) in
     ((λ i. record { tag = tag i; contents = f.contents }), grind (arith, nat_tests))
+
+few_behind : (us ns : List Name) → length us ≤ 16 → listable_behind us ns ≡ true → length us + length ns ≤ 16
+few_behind us [] few h = omega arith
+few_behind us (n ∷ ns) few h =
+    let first = first_listable us n ns h in
+    let long = length_push us n in
+    let room = (in_order_name us (name_field n) first.0).1 in
+    let more = few_behind (us ++ n ∷ []) ns (omega arith) first.1 in
+    omega arith
+
+-- no list has more than 16 names
+pub few_listable : (ns : List Name) → listable ns ≡ true → length ns ≤ 16
+few_listable ns h = let few = few_behind [] ns (omega arith) h in omega arith
 
 -- names in order can stand in a list
 listable_in_order : (us ns : List Name) → InOrder names_format (map name_field (us ++ ns)) → listable_behind us ns ≡ true

@@ -61,7 +61,7 @@ new_name us n free =
     let listed = cases_Bool (is_some (number_of us n)) in
     (grind (arith, nat_tests), grind (arith, nat_tests), grind (arith, nat_tests))
 
-first_listable : (us : List Name) (n : Name) (ns : List Name) → listable_behind us (n ∷ ns) ≡ true → (names_format (map name_field us) (name_field n) ≡ None) × (listable_behind (us ++ n ∷ []) ns ≡ true)
+pub first_listable : (us : List Name) (n : Name) (ns : List Name) → listable_behind us (n ∷ ns) ≡ true → (names_format (map name_field us) (name_field n) ≡ None) × (listable_behind (us ++ n ∷ []) ns ≡ true)
 unfolding listable_behind
 first_listable us n ns h = let parts = and_parts _ _ h in (none _ parts.0, parts.1)
 

@@ -1,5 +1,6 @@
 -- Name lists: which bytes a name has, which file is a name list, and the number of a name.
 use Rattle.std.specs.Prelude.{◌≡◌, ℕ, suc, Bool, true, cond, not, ◌&&◌, ◌||◌, ◌⊎◌, List, [], ◌∷◌, ◌++◌, map, length, is_some, Some, None, Ok, Err, vec_items, Option, Result, Vec, ◌==◌, nat_le, nat_lt}
+use Rattle.std.specs.List.{list_all}
 use Rattle.std.specs.Option.{option_map}
 use Rattle.std.specs.Str.{bytes_eq}
 use Rattle.std.specs.declared.alloc.Global.{Global}
@@ -27,8 +28,7 @@ abbrev pub name_byte : ℕ → Bool
 name_byte b = between 97 122 b || (between 65 90 b || (between 48 57 b || (b == 95 || (b == 45 || b == 46))))
 
 abbrev pub name_bytes : Name → Bool
-name_bytes [] = true
-name_bytes (b ∷ bs) = name_byte b && name_bytes bs
+name_bytes = list_all name_byte
 
 -- a name has 1 to 32 bytes
 abbrev pub name_long : Name → Bool

@@ -13,12 +13,7 @@ pub fn is_name_byte(byte: u8) -> bool
 pub fn has_name_bytes(name: &[u8]) -> bool
     ensures { result ≡ name_bytes name.now }
 {
-    for byte in name {
-        if !is_name_byte(*byte) {
-            return false;
-        }
-    }
-    true
+    name.iter().all(|byte| is_name_byte(*byte))
 }
 
 /// Whether these are as many bytes as a name has, 1 to 32.

@@ -1,8 +1,8 @@
 -- Reading whole words: one letter more, the calls that stay open, and what a follower has done after some letters.
-use Rattle.std.proofs.Common.{◌≡◌, ℕ, ◌+◌, ◌%◌, ◌<◌, ◌≤◌, eqb, List, [], ◌∷◌, ◌++◌, length, get_or, take, Some, None, Option, sym, refl, ap, ◌∙◌, ap₂, arith, below_none, below_more}
+use Rattle.std.proofs.Common.{◌≡◌, ℕ, ◌+◌, ◌<◌, ◌≤◌, List, [], ◌∷◌, ◌++◌, length, get_or, take, None, Option, sym, refl, ap, ◌∙◌, ap₂, arith, below_none, below_more}
 use Rattle.std.proofs.lemmas.List.{map-append, take_all, take_more}
-use Rattle.std.proofs.lemmas.Bool.{cond-true, eq-eqb}
-use Rattle.nested.proofs.Counts.{opens, opens_call, opens_return, opens_internal}
+use Rattle.std.proofs.lemmas.Bool.{eq-eqb}
+use Rattle.nested.proofs.Counts.{opens, opens_call, opens_return, opens_pending, opens_internal}
 use Rattle.nested.proofs.Matching.{read_append}
 use Rattle.nested.specs.Automata.{Automaton}
 use Rattle.nested.specs.Following.{ReadWhole, Reads, Unrefused, begun_at, follow_refusal, letter_refusal, mark_written, marks_written, places, refusal_at, stands}
@@ -29,15 +29,13 @@ module _ {S : Type 0} (A : Automaton S) where
   marks_more c (x ∷ w) l row = marks_more (read_letter A c x) w l (mark_written c x row)
 
   -- as many calls are open after a word as marks are left
-  pub open_after : (s : S) (ms : List (Mark S)) (w : List Letter) → length (read_from A (record { state = s; marks = ms }) w).marks ≡ opens (length ms) w
+  open_after : (w : List Letter) (s : S) (ms : List (Mark S)) → length (read_from A (record { state = s; marks = ms }) w).marks ≡ opens (length ms) w
   unfolding read_from
-  open_after s ms [] = unfold pending_returns unclosed_calls in omega arith
-  open_after s ms (Call a ∷ w) =
-      open_after (A.call s (a % 16)) (record { state = s; name = a } ∷ ms) w ∙ ap (λ n. opens n w) (omega arith) ∙ sym (opens_call (length ms) a w)
-  open_after s [] (Return b ∷ w) = open_after (A.pending s (b % 16)) [] w ∙ sym (opens_return 0 b w)
-  open_after s (m ∷ ms) (Return b ∷ w) =
-      open_after (A.ret s m.state (m.name % 16) (b % 16)) ms w ∙ ap (λ n. opens n w) (omega arith) ∙ sym (opens_return (length (m ∷ ms)) b w)
-  open_after s ms (Internal a ∷ w) = open_after (A.internal s (a % 16)) ms w ∙ sym (opens_internal (length ms) a w)
+  open_after [] s ms = unfold pending_returns unclosed_calls in omega arith
+  open_after (Call a ∷ w) s ms = open_after w _ (record { state = s; name = a } ∷ ms) ∙ sym (opens_call (length ms) a w)
+  open_after (Return b ∷ w) s [] = open_after w _ [] ∙ sym (opens_pending b w)
+  open_after (Return b ∷ w) s (m ∷ ms) = open_after w _ ms ∙ sym (opens_return (length ms) b w)
+  open_after (Internal a ∷ w) s ms = open_after w _ ms ∙ sym (opens_internal (length ms) a w)
 
   -- What a follower has done after i codes: it started over `row₀`, and is at p over `row`.
   pub record Followed (codes : List ℕ) (row₀ : List (Mark S)) (i : ℕ) (p : Position S) (row : List (Mark S)) : Type 0 where
@@ -60,17 +58,15 @@ module _ {S : Type 0} (A : Automaton S) where
 
     module _ (i : ℕ) (p : Position S) (row : List (Mark S)) (f : Followed codes row₀ i p row) where
       -- the places that are taken are the calls that are open
-      pub taken_unclosed : p.taken ≡ unclosed_calls (letters (take i codes))
-      taken_unclosed = let n = open_after A.start [] (letters (take i codes)) in let t = f.taking in omega arith
+      taken_unclosed : p.taken ≡ unclosed_calls (letters (take i codes))
+      taken_unclosed = let n = open_after (letters (take i codes)) A.start [] in omega arith
 
       refusal_here : refusal_at (length row₀) codes i ≡ letter_refusal (places p.row) p.taken (get_or codes i 0)
       refusal_here = ap₂ (λ n t. letter_refusal (places n) t (get_or codes i 0)) (sym f.lent) (sym taken_unclosed)
 
       -- a follow over a row of the right length is refused as the code is
       pub refused_here : (o : Option ℕ) → length row ≡ length row₀ → follow_refusal p (length row) (get_or codes i 0) ≡ o → refusal_at (length row₀) codes i ≡ o
-      refused_here o long e =
-          let test = eq-eqb (length row) p.row (long ∙ sym f.lent) in
-          refusal_here ∙ sym (cond-true (eqb (length row) p.row) (letter_refusal (places p.row) p.taken (get_or codes i 0)) (Some 3) test) ∙ e
+      refused_here o long e = refusal_here ∙ rw (eq-eqb (length row) p.row (long ∙ sym f.lent)) at e
 
       pub followed_more : (q : Position S) (row' : List (Mark S)) → i < length codes → length row ≡ length row₀ → follow_refusal p (length row) (get_or codes i 0) ≡ None → Reads A (letter_of (get_or codes i 0)) p row q row' → Followed codes row₀ (i + 1) q row'
       followed_more q row' within long free r =
@@ -85,10 +81,6 @@ module _ {S : Type 0} (A : Automaton S) where
             written = r.written ∙ ap₂ (λ c ms. mark_written c l ms) f.stood f.written ∙ sym (marks_more (begun A) w l row₀) ∙ ap (λ v. marks_written A (begun A) v row₀) (sym word);
             unrefused = below_more _ i f.unrefused (refused_here None long free);
           }
-
-      pub written_whole : length codes ≤ i → row ≡ marks_written A (begun A) (letters (take (length codes) codes)) row₀
-      written_whole end =
-          f.written ∙ ap (λ v. marks_written A (begun A) (letters v) row₀) (take_all i codes end ∙ sym (take_all (length codes) codes (omega arith)))
 
       pub read_whole : (r : Standing) → length codes ≤ i → r.accepts ≡ A.accepts p.state → r.«open» ≡ p.taken → ReadWhole A (length row₀) codes r
       read_whole r end says count =

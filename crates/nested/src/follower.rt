@@ -2,7 +2,7 @@
 ghost use Rattle.std.specs.Prelude.{◌≡◌, ◌<◌, ◌≤◌, length, MatchResult};
 ghost use Rattle.nested.specs.Letters.{letter_of};
 ghost use Rattle.nested.specs.Following.{begun_at, follow_refusal, Reads, RefusedBy};
-ghost use Rattle.nested.specs.declared.letter.Letter.TheVariants.{Call, Return, Internal};
+ghost use Rattle.nested.specs.declared.letter.Letter.TheVariants.{Call, Return};
 
 use crate::letter::Letter;
 use crate::machine::Machine;
@@ -53,10 +53,7 @@ impl<'a, M: Machine> Follower<'a, M> {
         if marks.len() != self.at.row {
             return Err(Refusal::RowLength);
         }
-        let Some(letter) = Letter::from_code(code) else {
-            return Err(Refusal::NotALetter);
-        };
-        match letter {
+        match Letter::try_from(code)? {
             Letter::Call(name) => {
                 if self.at.taken >= self.at.row.min(MOST_PLACES) {
                     return Err(Refusal::MarksFull);
@@ -64,7 +61,7 @@ impl<'a, M: Machine> Follower<'a, M> {
                 self.call(name, marks);
             }
             Letter::Return(name) => self.ret(name, marks),
-            Letter::Internal(name) => self.internal(name, marks),
+            Letter::Internal(name) => self.at.state = self.machine.internal(self.at.state, name),
         }
         Ok(())
     }
@@ -89,22 +86,13 @@ impl<'a, M: Machine> Follower<'a, M> {
         ensures reads { Reads (M.Machine.meaning self.old.machine.now) (Return name) self.old.at marks.now self.new.at marks.now }
         ensures machine { self.new.machine.now ≡ self.old.machine.now }
     {
-        if self.at.taken == 0 {
-            self.at.state = self.machine.pending(self.at.state, name);
-        } else {
-            let mark = marks[self.at.taken - 1];
-            self.at.state = self.machine.ret(self.at.state, mark.state, mark.name, name);
-            self.at.taken -= 1;
+        match marks[..self.at.taken].last() {
+            None => self.at.state = self.machine.pending(self.at.state, name),
+            Some(mark) => {
+                self.at.state = self.machine.ret(self.at.state, mark.state, mark.name, name);
+                self.at.taken -= 1;
+            }
         }
-    }
-
-    // Reads an internal letter.
-    fn internal(&mut self, name: u8, marks: &[Mark<M::State>])
-        requires { self.old.at.taken ≤ length marks.now }
-        ensures reads { Reads (M.Machine.meaning self.old.machine.now) (Internal name) self.old.at marks.now self.new.at marks.now }
-        ensures machine { self.new.machine.now ≡ self.old.machine.now }
-    {
-        self.at.state = self.machine.internal(self.at.state, name);
     }
 
     /// Whether the state accepts, and how many calls are open.

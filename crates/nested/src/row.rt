@@ -16,10 +16,12 @@ pub fn mark_row<M: Machine>(
 ) -> Result<Vec<Mark<M::State>>, AllocError>
     ensures { IfOk result (λ v. v.items ≡ replicate places (record { state = (M.Machine.meaning machine.now).start; name = 0 })) }
 {
+    let mark = Mark {
+        state: machine.start(),
+        name: 0,
+    };
+    // Not `vec![in heap; mark; places]`, whose copies are what a state's `clone` says: that is nothing of a state known by its trait.
     let mut marks = Vec::new(heap);
-    for _ in 0..places {
-        let state = machine.start();
-        marks.push(Mark { state, name: 0 })?;
-    }
+    marks.resize(places, mark)?;
     Ok(marks)
 }

@@ -13,6 +13,7 @@ use crate::standing::{Standing, Stop};
 ///
 /// Where every letter is read, the standing accepts exactly if the machine accepts the word, and its open calls are the calls of the
 /// word that are never closed. Otherwise it answers the first letter that is refused, and why; the letters before it were read.
+#[tactic(auto, using(crate::proofs::Words::refused_here))]
 pub fn follow_word<M: Machine>(
     machine: &M,
     codes: &[u8],
@@ -23,9 +24,9 @@ pub fn follow_word<M: Machine>(
 {
     let mut follower = Follower::begin(machine, marks);
     for (letter, code) in codes.iter().enumerate() {
-        if let Err(refusal) = follower.follow(*code, marks) {
-            return Err(Stop { letter, refusal });
-        }
+        follower
+            .follow(*code, marks)
+            .map_err(|refusal| Stop { letter, refusal })?;
     }
     Ok(follower.standing())
 }

@@ -1,30 +1,27 @@
 // nwa check: a record, followed with a machine.
-use crate::files::{load_names, print_fault, read_file};
-use crate::follow::{print_standing, print_stop};
+use crate::failure::Failure;
+use crate::files::{load_names, read_file};
 use crate::letters::MOST_LETTERS;
-use crate::shape::{Shape, Task, with_shape};
+use crate::shape::{Shape, Task};
 use name_list::list::NameList;
 use nested::machine::Machine;
 use nested::row::{MOST_PLACES, mark_row};
-use records::check::{Unchecked, check_record};
-use std::io;
+use records::check::check_record;
 
 /// `check LIST RECORD MACHINE`: whether the record's word is accepted.
-pub fn answer_check(list: &str, path: &str, machine: Shape, rt: &HostRuntime) -> io::Result<bool> {
-    let Some(names) = load_names(list, rt)? else {
-        return Ok(false);
-    };
-    let Some(bytes) = read_file(path, rt)? else {
-        return Ok(false);
-    };
-    with_shape(
-        machine,
-        Record {
-            rt,
-            names: &names,
-            bytes: &bytes,
-        },
-    )
+pub fn answer_check<'a>(
+    list: &'a str,
+    path: &'a str,
+    machine: Shape,
+    rt: &HostRuntime,
+) -> Result<(), Failure<'a>> {
+    let names = load_names(list, rt)?;
+    let bytes = read_file(path, rt)?;
+    machine.with(Record {
+        rt,
+        names: &names,
+        bytes: &bytes,
+    })
 }
 
 // Checks a record with a machine, and prints what comes of it.
@@ -34,17 +31,13 @@ struct Record<'a> {
     bytes: &'a [u8],
 }
 
-impl Task for Record<'_> {
-    type Answer = io::Result<bool>;
-
-    fn run<M: Machine + Drop>(self, machine: M) -> io::Result<bool> {
+impl<'f> Task<Result<(), Failure<'f>>> for Record<'_> {
+    fn run<M: Machine + Drop>(self, machine: M) -> Result<(), Failure<'f>> {
         let Record { rt, names, bytes } = self;
         let mut codes = vec![in rt.alloc(); 0u8; MOST_LETTERS]?;
         let mut marks = mark_row(&machine, MOST_PLACES, rt.alloc())?;
-        match check_record(names, bytes, &machine, &mut codes, &mut marks) {
-            Ok(standing) => print_standing(standing, rt),
-            Err(Unchecked::Faulty(fault)) => print_fault(fault, rt),
-            Err(Unchecked::Refused(stop)) => print_stop(stop, rt),
-        }
+        let standing = check_record(names, bytes, &machine, &mut codes, &mut marks)?;
+        println!(rt; "{standing}")?;
+        Ok(())
     }
 }

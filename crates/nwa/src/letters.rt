@@ -1,5 +1,6 @@
 // nwa letters and nwa show: the letters of a record.
-use crate::files::{load_names, print_fault, read_file};
+use crate::failure::Failure;
+use crate::files::{load_names, read_file};
 use crate::names::text_of;
 use name_list::list::NameList;
 use nested::letter::Letter;
@@ -17,110 +18,90 @@ struct Record {
     codes: Vec<u8>,
 }
 
-// Reads the two files; where that fails, what is wrong is printed.
-fn load(list: &str, path: &str, rt: &HostRuntime) -> io::Result<Option<Record>> {
-    let Some(names) = load_names(list, rt)? else {
-        return Ok(None);
-    };
-    let Some(bytes) = read_file(path, rt)? else {
-        return Ok(None);
-    };
+// Reads the two files.
+fn load<'a>(list: &'a str, path: &'a str, rt: &HostRuntime) -> Result<Record, Failure<'a>> {
+    let names = load_names(list, rt)?;
+    let bytes = read_file(path, rt)?;
     let mut codes = vec![in rt.alloc(); 0u8; MOST_LETTERS]?;
-    match read_record(&names, &bytes, &mut codes) {
-        Ok(count) => {
-            codes.truncate(count);
-            Ok(Some(Record { names, codes }))
-        }
-        Err(fault) => {
-            let _ = print_fault(fault, rt)?;
-            Ok(None)
-        }
-    }
+    let count = read_record(&names, &bytes, &mut codes)?;
+    codes.truncate(count);
+    Ok(Record { names, codes })
 }
 
 /// `letters LIST RECORD`: how many letters there are, and their codes.
-pub fn answer_letters(list: &str, path: &str, rt: &HostRuntime) -> io::Result<bool> {
-    let Some(record) = load(list, path, rt)? else {
-        return Ok(false);
-    };
-    let count = record.codes.len();
+pub fn answer_letters<'a>(
+    list: &'a str,
+    path: &'a str,
+    rt: &HostRuntime,
+) -> Result<(), Failure<'a>> {
+    let Record { names: _, codes } = load(list, path, rt)?;
+    let count = codes.len();
     println!(rt; "{count} letters")?;
-    for (i, code) in record.codes.iter().enumerate() {
-        if i == 0 {
-            print!(rt; "{code}")?;
-        } else {
+    if let Some((first, rest)) = codes.split_first() {
+        print!(rt; "{first}")?;
+        for code in rest {
             print!(rt; " {code}")?;
         }
     }
     println!(rt; "")?;
-    Ok(true)
+    Ok(())
 }
 
-// For each letter, whether it is a call that is never closed.
-fn never_closed(codes: &[u8], heap: Global) -> Result<Vec<bool>, AllocError> {
-    let mut never = Vec::new(heap);
-    let mut pending = 0u64;
-    for code in codes.iter().rev() {
-        match Letter::from_code(*code) {
-            Some(Letter::Call(_)) => {
-                never.push(pending == 0)?;
-                pending = pending.saturating_sub(1);
+// The letters with these codes, each with whether it is a call that is never closed.
+fn with_unclosed(codes: &[u8], heap: Global) -> Result<Vec<(Letter, bool)>, AllocError> {
+    let mut letters = Vec::with_capacity(heap, codes.len())?;
+    let mut returns = 0u64;
+    for letter in codes
+        .iter()
+        .rev()
+        .filter_map(|code| Letter::try_from(*code).ok())
+    {
+        let unclosed = match letter {
+            Letter::Call(_) => {
+                let unclosed = returns == 0;
+                returns = returns.saturating_sub(1);
+                unclosed
             }
-            Some(Letter::Return(_)) => {
-                never.push(false)?;
-                pending = pending.saturating_add(1);
+            Letter::Return(_) => {
+                returns = returns.saturating_add(1);
+                false
             }
-            _ => never.push(false)?,
-        }
+            Letter::Internal(_) => false,
+        };
+        letters.push((letter, unclosed))?;
     }
-    never.reverse();
-    Ok(never)
+    letters.reverse();
+    Ok(letters)
 }
 
-// Prints a letter `depth` steps in.
-fn print_letter(
-    depth: usize,
-    kind: &str,
-    name: &str,
-    mark: &str,
-    rt: &HostRuntime,
-) -> io::Result<()> {
-    for _ in 0..depth {
-        print!(rt; "  ")?;
-    }
-    println!(rt; "{kind} {name}{mark}")
-}
-
-// Prints a word letter by letter, indented by the calls that are open.
-fn print_word(names: &NameList, codes: &[u8], never: &[bool], rt: &HostRuntime) -> io::Result<()> {
+// Prints the letters of a word, indented by the calls that are open.
+fn print_word(names: &NameList, letters: &[(Letter, bool)], rt: &HostRuntime) -> io::Result<()> {
     let mut depth = 0usize;
-    for (code, open) in codes.iter().zip(never.iter()) {
-        let name = text_of(names, usize::from(*code % 16), rt.alloc())?;
-        match Letter::from_code(*code) {
-            Some(Letter::Call(_)) => {
-                let mark = if *open { " (pending)" } else { "" };
-                print_letter(depth, "call", name.as_str(), mark, rt)?;
-                depth = depth.saturating_add(1);
-            }
-            Some(Letter::Return(_)) => {
-                let mark = if depth == 0 { " (pending)" } else { "" };
-                depth = depth.saturating_sub(1);
-                print_letter(depth, "return", name.as_str(), mark, rt)?;
-            }
-            _ => print_letter(depth, "internal", name.as_str(), "", rt)?,
+    for (letter, unclosed) in letters {
+        let (kind, name, pending) = match *letter {
+            Letter::Call(name) => ("call", name, *unclosed),
+            Letter::Return(name) => ("return", name, depth == 0),
+            Letter::Internal(name) => ("internal", name, false),
+        };
+        if matches!(letter, Letter::Return(_)) {
+            depth = depth.saturating_sub(1);
+        }
+        let indent = depth.saturating_mul(2);
+        let name = text_of(names, usize::from(name), rt.alloc())?;
+        let mark = if pending { " (pending)" } else { "" };
+        println!(rt; "{:indent$}{kind} {name}{mark}", "")?;
+        if matches!(letter, Letter::Call(_)) {
+            depth = depth.saturating_add(1);
         }
     }
     Ok(())
 }
 
 /// `show LIST RECORD`: each letter by its name, indented by the calls that are open, pending calls and returns marked.
-pub fn answer_show(list: &str, path: &str, rt: &HostRuntime) -> io::Result<bool> {
-    let Some(Record { names, codes }) = load(list, path, rt)? else {
-        return Ok(false);
-    };
+pub fn answer_show<'a>(list: &'a str, path: &'a str, rt: &HostRuntime) -> Result<(), Failure<'a>> {
+    let Record { names, codes } = load(list, path, rt)?;
     let count = codes.len();
     println!(rt; "{count} letters")?;
-    let never = never_closed(&codes, rt.alloc())?;
-    print_word(&names, &codes, &never, rt)?;
-    Ok(true)
+    print_word(&names, &with_unclosed(&codes, rt.alloc())?, rt)?;
+    Ok(())
 }

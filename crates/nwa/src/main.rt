@@ -6,6 +6,7 @@
 
 mod check;
 mod command;
+mod failure;
 mod files;
 mod follow;
 mod letters;
@@ -15,9 +16,22 @@ mod words;
 mod write;
 
 use command::answer;
+use failure::Failure;
 use std::io::{BufRead, BufReader};
 use std::process::ExitCode;
 use std::{env, io};
+
+// Answers a command, and prints why where it is not carried out.
+fn report(words: &[&str], rt: &HostRuntime) -> io::Result<ExitCode> {
+    match answer(words, rt) {
+        Ok(()) => Ok(ExitCode::SUCCESS),
+        Err(Failure::Io(error)) => Err(error),
+        Err(failure) => {
+            println!(rt; "{failure}")?;
+            Ok(ExitCode::FAILURE)
+        }
+    }
+}
 
 fn answer_line(line: &str, rt: &HostRuntime) -> io::Result<()> {
     let words: Vec<&str> = line.split_whitespace().collect(rt.alloc())?;
@@ -25,35 +39,22 @@ fn answer_line(line: &str, rt: &HostRuntime) -> io::Result<()> {
         return Ok(());
     }
     println!(rt; "> {line}")?;
-    let _ = answer(&words, rt)?;
+    let _ = report(&words, rt)?;
     Ok(())
 }
 
-fn answer_lines(rt: &HostRuntime) -> io::Result<()> {
+fn answer_lines(rt: &HostRuntime) -> io::Result<ExitCode> {
     for line in BufReader::new(rt.alloc(), rt.stdin())?.lines(rt.alloc()) {
         answer_line(line?.as_str(), rt)?;
     }
-    Ok(())
-}
-
-// False where the command on the command line is refused or not understood.
-fn run(rt: &HostRuntime) -> io::Result<bool> {
-    let args: Vec<String> = env::args(rt)?.skip(1).collect(rt.alloc())?;
-    if args.is_empty() {
-        answer_lines(rt)?;
-        return Ok(true);
-    }
-    let mut words = Vec::new(rt.alloc());
-    for arg in args.iter() {
-        words.push(arg.as_str())?;
-    }
-    answer(&words, rt)
+    Ok(ExitCode::SUCCESS)
 }
 
 fn main(rt: HostRuntime) -> io::Result<ExitCode> {
-    if run(&rt)? {
-        Ok(ExitCode::SUCCESS)
-    } else {
-        Ok(ExitCode::FAILURE)
+    let args: Vec<String> = env::args(&rt)?.skip(1).collect(rt.alloc())?;
+    if args.is_empty() {
+        return answer_lines(&rt);
     }
+    let words: Vec<&str> = args.iter().map(|arg| arg.as_str()).collect(rt.alloc())?;
+    report(&words, &rt)
 }

@@ -1,5 +1,6 @@
 // The machines that a command can name, and work that is done with one of them.
-use crate::words::{ParseError, Words, byte};
+use crate::failure::ParseError;
+use crate::words::{Words, byte};
 use layers::{And, Join, Not, Or, Pair};
 use machines::depth::Depth;
 use machines::names::Names;
@@ -12,18 +13,18 @@ const OPERAND: &str = "a machine without a layer of its own but not: names, dept
 
 const DEPTH: &str = "a number after depth";
 
+/// A machine, or its complement.
+#[derive(Clone, Copy)]
+pub enum Signed<T> {
+    Plain(T),
+    Not(T),
+}
+
 /// A machine that stands on no other.
 #[derive(Clone, Copy)]
 pub enum Simple {
     Names,
     Depth(u8),
-}
-
-/// A simple machine or its complement.
-#[derive(Clone, Copy)]
-pub struct Literal {
-    simple: Simple,
-    negated: bool,
 }
 
 /// How two machines are joined.
@@ -33,149 +34,154 @@ pub enum Layer {
     Either,
 }
 
+/// Two machines, joined.
+#[derive(Clone, Copy)]
+pub struct Two {
+    layer: Layer,
+    first: Signed<Simple>,
+    second: Signed<Simple>,
+}
+
 /// The machines that a command can name. An even number of `not` in front of a machine leaves it as it is.
 #[derive(Clone, Copy)]
 pub enum Shape {
-    One(Literal),
-    Two(Layer, Literal, Literal),
-    NotTwo(Layer, Literal, Literal),
+    One(Signed<Simple>),
+    Two(Signed<Two>),
 }
 
-/// Work that is done with a machine of any type.
-pub trait Task {
-    type Answer;
-
-    fn run<M: Machine + Drop>(self, machine: M) -> Self::Answer;
+/// Work that is done with a machine of any type, and answers an `A`.
+///
+/// It is a trait, and no closure or `dyn`: a closure takes one type, and machines differ in the type of their states.
+pub trait Task<A> {
+    fn run<M: Machine + Drop>(self, machine: M) -> A;
 }
 
-fn parse_simple(
-    keyword: &str,
-    words: &mut Words,
-    what: &'static str,
-) -> Result<Simple, ParseError> {
-    match keyword {
-        "names" => Ok(Simple::Names),
-        "depth" => Ok(Simple::Depth(byte(words.expect(DEPTH)?, DEPTH)?)),
-        _ => Err(ParseError::Expected(what)),
-    }
-}
-
-fn parse_literal(words: &mut Words) -> Result<Literal, ParseError> {
-    let negated = words.odd("not");
-    let keyword = words.expect(OPERAND)?;
-    let simple = parse_simple(keyword, words, OPERAND)?;
-    Ok(Literal { simple, negated })
-}
-
-fn parse_two(layer: Layer, negated: bool, words: &mut Words) -> Result<Shape, ParseError> {
-    let first = parse_literal(words)?;
-    let second = parse_literal(words)?;
-    if negated {
-        Ok(Shape::NotTwo(layer, first, second))
-    } else {
-        Ok(Shape::Two(layer, first, second))
-    }
-}
-
-/// Reads a machine off the front of a command's words.
-pub fn parse_shape(words: &mut Words) -> Result<Shape, ParseError> {
-    let negated = words.odd("not");
-    let keyword = words.expect(MACHINE)?;
-    match keyword {
-        "both" => parse_two(Layer::Both, negated, words),
-        "either" => parse_two(Layer::Either, negated, words),
-        _ => {
-            let simple = parse_simple(keyword, words, MACHINE)?;
-            Ok(Shape::One(Literal { simple, negated }))
+impl<T> Signed<T> {
+    fn new(negated: bool, machine: T) -> Signed<T> {
+        if negated {
+            Signed::Not(machine)
+        } else {
+            Signed::Plain(machine)
         }
     }
 }
 
-fn with_simple<T: Task>(simple: Simple, task: T) -> T::Answer {
-    match simple {
-        Simple::Names => task.run(Names::new()),
-        Simple::Depth(k) => task.run(Depth::new(k)),
+impl Simple {
+    fn parse(
+        keyword: &str,
+        words: &mut Words,
+        expected: &'static str,
+    ) -> Result<Simple, ParseError> {
+        match keyword {
+            "names" => Ok(Simple::Names),
+            "depth" => Ok(Simple::Depth(byte(words.expect(DEPTH)?, DEPTH)?)),
+            _ => Err(ParseError::Expected(expected)),
+        }
+    }
+
+    fn with<A, T: Task<A>>(self, task: T) -> A {
+        match self {
+            Simple::Names => task.run(Names::new()),
+            Simple::Depth(k) => task.run(Depth::new(k)),
+        }
+    }
+}
+
+impl Signed<Simple> {
+    fn parse(words: &mut Words) -> Result<Signed<Simple>, ParseError> {
+        let negated = words.odd("not");
+        let keyword = words.expect(OPERAND)?;
+        Ok(Signed::new(negated, Simple::parse(keyword, words, OPERAND)?))
+    }
+
+    fn with<A, T: Task<A>>(self, task: T) -> A {
+        match self {
+            Signed::Plain(simple) => simple.with(task),
+            Signed::Not(simple) => simple.with(Complement(task)),
+        }
     }
 }
 
 // Hands the complement of its machine on.
 struct Complement<T>(T);
 
-impl<T: Task> Task for Complement<T> {
-    type Answer = T::Answer;
-
-    fn run<M: Machine + Drop>(self, machine: M) -> T::Answer {
+impl<A, T: Task<A>> Task<A> for Complement<T> {
+    fn run<M: Machine + Drop>(self, machine: M) -> A {
         let Complement(task) = self;
         task.run(Not::new(machine))
     }
 }
 
-fn with_literal<T: Task>(literal: Literal, task: T) -> T::Answer {
-    if literal.negated {
-        with_simple(literal.simple, Complement(task))
-    } else {
-        with_simple(literal.simple, task)
-    }
-}
-
 // Takes the first machine of a pair, and goes on to the second.
 struct PairWith<J, T> {
-    second: Literal,
+    second: Signed<Simple>,
     join: J,
     task: T,
 }
 
-impl<J: Join + Drop, T: Task> Task for PairWith<J, T> {
-    type Answer = T::Answer;
-
-    fn run<M: Machine + Drop>(self, first: M) -> T::Answer {
+impl<A, J: Join + Drop, T: Task<A>> Task<A> for PairWith<J, T> {
+    fn run<M: Machine + Drop>(self, first: M) -> A {
         let PairWith { second, join, task } = self;
-        with_literal(second, PairAfter { first, join, task })
+        second.with(PairAfter { first, join, task })
     }
 }
 
 // Takes the second machine of a pair, and hands the pair on.
-struct PairAfter<A, J, T> {
-    first: A,
+struct PairAfter<M, J, T> {
+    first: M,
     join: J,
     task: T,
 }
 
-impl<A: Machine + Drop, J: Join + Drop, T: Task> Task for PairAfter<A, J, T> {
-    type Answer = T::Answer;
-
-    fn run<M: Machine + Drop>(self, second: M) -> T::Answer {
+impl<A, F: Machine + Drop, J: Join + Drop, T: Task<A>> Task<A> for PairAfter<F, J, T> {
+    fn run<M: Machine + Drop>(self, second: M) -> A {
         let PairAfter { first, join, task } = self;
         task.run(Pair::new(first, second, join))
     }
 }
 
-fn with_two<T: Task>(layer: Layer, first: Literal, second: Literal, task: T) -> T::Answer {
-    match layer {
-        Layer::Both => with_literal(
-            first,
-            PairWith {
-                second,
-                join: And,
-                task,
-            },
-        ),
-        Layer::Either => with_literal(
-            first,
-            PairWith {
-                second,
-                join: Or,
-                task,
-            },
-        ),
+impl Two {
+    fn parse(layer: Layer, words: &mut Words) -> Result<Two, ParseError> {
+        Ok(Two {
+            layer,
+            first: Signed::parse(words)?,
+            second: Signed::parse(words)?,
+        })
+    }
+
+    fn joined<A, J: Join + Drop, T: Task<A>>(self, join: J, task: T) -> A {
+        let Two { first, second, .. } = self;
+        first.with(PairWith { second, join, task })
+    }
+
+    fn with<A, T: Task<A>>(self, task: T) -> A {
+        match self.layer {
+            Layer::Both => self.joined(And, task),
+            Layer::Either => self.joined(Or, task),
+        }
     }
 }
 
-/// Makes the machine and does the work with it.
-pub fn with_shape<T: Task>(shape: Shape, task: T) -> T::Answer {
-    match shape {
-        Shape::One(literal) => with_literal(literal, task),
-        Shape::Two(layer, first, second) => with_two(layer, first, second, task),
-        Shape::NotTwo(layer, first, second) => with_two(layer, first, second, Complement(task)),
+impl Shape {
+    /// Reads a machine off the front of a command's words.
+    pub fn parse(words: &mut Words) -> Result<Shape, ParseError> {
+        let negated = words.odd("not");
+        match words.expect(MACHINE)? {
+            "both" => Ok(Shape::Two(Signed::new(negated, Two::parse(Layer::Both, words)?))),
+            "either" => Ok(Shape::Two(Signed::new(negated, Two::parse(Layer::Either, words)?))),
+            keyword => Ok(Shape::One(Signed::new(
+                negated,
+                Simple::parse(keyword, words, MACHINE)?,
+            ))),
+        }
+    }
+
+    /// Makes the machine and does the work with it.
+    pub fn with<A, T: Task<A>>(self, task: T) -> A {
+        match self {
+            Shape::One(simple) => simple.with(task),
+            Shape::Two(Signed::Plain(two)) => two.with(task),
+            Shape::Two(Signed::Not(two)) => two.with(Complement(task)),
+        }
     }
 }

@@ -1,4 +1,3 @@
-pub mod Checking
 pub mod Reading
 pub mod RoundTrips
 pub mod Spelling

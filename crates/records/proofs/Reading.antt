@@ -1,23 +1,21 @@
 -- Reading a record field by field.
-use Rattle.std.proofs.Common.{◌≡◌, ℕ, ◌+◌, ◌<◌, ◌≤◌, Bool, true, false, ltb, leb, List, [], ◌∷◌, ◌++◌, length, get_or, take, drop, set, is_some, IfOk, Some, None, Ok, Err, MatchBool, Option, Result, sym, refl, ap, ◌∙◌, subst, ap₂, subst₂, arith, MatchResult}
-use Rattle.std.proofs.lemmas.List.{append_assoc, drop_more, length-append, length-drop, length-map, length_push, map-append, set_at, take_at}
-use Rattle.std.proofs.lemmas.Bool.{cond-false, cond-true, le-leb, le-ltb, lt-leb, lt-ltb}
+use Rattle.std.proofs.Common.{◌≡◌, ℕ, ◌+◌, ◌<◌, ◌≤◌, true, leb, List, [], ◌∷◌, ◌++◌, length, get_or, take, drop, set, is_some, IfOk, Some, None, Ok, Err, Result, sym, refl, ap, ◌∙◌, subst, ap₂, subst₂, arith}
+use Rattle.std.proofs.lemmas.List.{append_assoc, drop_more, length-map, length_push, map-append, set_at, take_at}
+use Rattle.std.proofs.lemmas.Bool.{cond-false, cond-true, le-leb, lt-leb}
 use Rattle.fields.proofs.Fronts.{Front, front_cut, front_ends, front_more, front_none, front_stops}
 use Rattle.fields.proofs.Telling.{some_number}
 use Rattle.fields.specs.Faults.{told}
-use Rattle.fields.specs.declared.fault.Told.{Told}
 use Rattle.fields.specs.Fields.{Cut, Piece, file_of}
 use Rattle.fields.specs.Outcomes.{Ends, Fits, Format, Outcome}
 use Rattle.fields.specs.Parts.{Stands, part_of, piece_of}
 use Rattle.fields.specs.declared.fault.Fault.{Fault}
-use Rattle.fields.specs.declared.fault.Fault.TheVariants.{TooLong}
-use Rattle.fields.specs.declared.fault.File.TheVariants.{Record}
 use Rattle.fields.specs.declared.field.Field.{Field}
-use Rattle.name_list.specs.Names.{Name}
+use Rattle.name_list.proofs.Loading.{few_listable}
+use Rattle.name_list.specs.Names.{Name, listable}
 use Rattle.records.proofs.RoundTrips.{spelled_in, writes_back}
 use Rattle.records.proofs.Spelling.{room_last, spelling_first}
 use Rattle.records.specs.Reading.{spelling_fault}
-use Rattle.records.specs.Records.{Reads, RecordRead, WritesBack, code_in, codes_in, record_fault, record_format, spelled}
+use Rattle.records.specs.Records.{Reads, WritesBack, code_in, codes_in, record_fault, record_format, spelled}
 
 module _ (names : List Name) (bytes was : List ℕ) where
   -- The fields up to `place` are read, and their letters, `count` of them, stand in the buffer `now`.
@@ -26,9 +24,10 @@ module _ (names : List Name) (bytes was : List ℕ) where
     pub front : Front (record_format names (length was)) bytes place fields
     pub counted : count ≡ length fields
     pub buffer : now ≡ codes_in names fields ++ drop count was
+    pub list : 0 < count → listable names ≡ true
 
   pub so_far_none : ReadSoFar 0 0 was
-  so_far_none = record { fields = []; front = front_none (record_format names (length was)) bytes; counted = refl; buffer = refl }
+  so_far_none = record { fields = []; front = front_none (record_format names (length was)) bytes; counted = refl; buffer = refl; list = λ some. absurd (omega arith) }
 
   module _ (place count : ℕ) (now : List ℕ) (so_far : ReadSoFar place count now) where
     letters_stand : now ≡ codes_in names so_far.fields ++ drop (length so_far.fields) was
@@ -37,8 +36,8 @@ module _ (names : List Name) (bytes was : List ℕ) where
     at_field : (field : Field) (next : ℕ) → Stands bytes place field next → (part_of field).place ≡ length (file_of so_far.fields)
     at_field field next stands = stands.placed ∙ so_far.front.reached
 
-    pub so_far_more : (field : Field) (next code : ℕ) → Stands bytes place field next → spelling_fault names (piece_of field) ≡ None → code ≡ code_in names (piece_of field) → count < length was → ReadSoFar next (count + 1) (set now count code)
-    so_far_more field next code stands free is room =
+    pub so_far_more : (field : Field) (next code : ℕ) → Stands bytes place field next → spelling_fault names (piece_of field) ≡ None → code ≡ code_in names (piece_of field) → count < length was → listable names ≡ true → ReadSoFar next (count + 1) (set now count code)
+    so_far_more field next code stands free is room list =
         let fs = so_far.fields in
         let f = piece_of field in
         let fits : record_format names (length was) fs f ≡ None = room_last names f (length was) fs free ∙ cond-false (leb (length was) (length fs)) (Some 21) None (lt-leb (length was) (length fs) (let n = so_far.counted in omega arith)) in
@@ -51,6 +50,7 @@ module _ (names : List Name) (bytes was : List ℕ) where
           front = front_more so_far.front f next stands.behind stands.here fits;
           counted = (let n = so_far.counted in omega arith);
           buffer = put ∙ ap (λ c. codes_in names fs ++ c ∷ drop (count + 1) was) is ∙ sym (append_assoc (codes_in names fs) (code_in names f ∷ []) (drop (count + 1) was)) ∙ ap (λ xs. xs ++ drop (count + 1) was) (sym (map-append (code_in names) fs (f ∷ [])));
+          list = λ _. list;
         }
 
     pub reads_cut : (e : Fault) → Cut (drop place bytes) → told e ≡ record_fault place (Some 10) → Reads names bytes was now (Err e)
@@ -98,50 +98,22 @@ read_codes names bytes was now n r =
     let fs = r.outcome.fields in
     ap₂ take r.answer.1 r.buffer ∙ take_at (codes_in names fs) (drop (length fs) was) (length fs) (length-map fs (code_in names))
 
-pub read_spells : (names : List Name) (bytes was now : List ℕ) (n : ℕ) → length names ≤ 16 → Reads names bytes was now (Ok n) → (bytes ≡ spelled names (take n now)) × (now ≡ take n now ++ drop (length (take n now)) was)
-read_spells names bytes was now n few r =
-    let fs = r.outcome.fields in
-    let codes = read_codes names bytes was now n r in
-    let all = whole (record_format names (length was)) bytes r.outcome r.fits r.answer.0 in
-    let spelling : file_of fs ≡ spelled names (codes_in names fs) = ap file_of (sym (spelled_in names (length was) fs few r.fits.in_order)) in
-    let long : length fs ≡ length (codes_in names fs) = sym (length-map fs (code_in names)) in (
-      all ∙ spelling ∙ ap (spelled names) (sym codes),
-      r.buffer ∙ ap (λ k. codes_in names fs ++ drop k was) long ∙ ap (λ xs. xs ++ drop (length xs) was) (sym codes),
-    )
+-- letters were read, so the names are of a list
+module _ (names : List Name) (bytes was now : List ℕ) where
+  few_read : (n : ℕ) → (0 < n → listable names ≡ true) → (r : Reads names bytes was now (Ok n)) → 0 < length r.outcome.fields → length names ≤ 16
+  few_read n list r some = let is = r.answer.1 in few_listable names (list (omega arith))
 
--- the letters that were read, written again
-ok_writes_back : (names : List Name) (bytes was now : List ℕ) (n : ℕ) → length names ≤ 16 → length bytes ≤ 65535 → Reads names bytes was now (Ok n) → WritesBack names bytes (take n now)
-ok_writes_back names bytes was now n few short r =
-    let fs = r.outcome.fields in
-    let all : bytes ≡ file_of fs = whole (record_format names (length was)) bytes r.outcome r.fits r.answer.0 in
-    let codes = read_codes names bytes was now n r in
-    subst₂ (λ b c. WritesBack names b c) (sym all) (sym codes) (writes_back names (length was) fs few r.fits.in_order (subst (λ b. length b ≤ 65535) all short))
+  pub read_spells : (r : Result ℕ Fault) → IfOk r (λ n. 0 < n → listable names ≡ true) → Reads names bytes was now r → IfOk r (λ n. bytes ≡ spelled names (take n now))
+  read_spells (Ok n) list r =
+      let fs = r.outcome.fields in
+      let spelling : file_of fs ≡ spelled names (codes_in names fs) = ap file_of (sym (spelled_in names (length was) fs (few_read n list r) r.fits.in_order)) in
+      whole (record_format names (length was)) bytes r.outcome r.fits r.answer.0 ∙ spelling ∙ ap (spelled names) (sym (read_codes names bytes was now n r))
+  read_spells (Err e) list r = tt
 
-pub read_writes_back : (names : List Name) (bytes was now : List ℕ) (r : Result ℕ Fault) → length names ≤ 16 → length bytes ≤ 65535 → Reads names bytes was now r → IfOk r (λ n. WritesBack names bytes (take n now))
-read_writes_back names bytes was now (Ok n) few short reads = ok_writes_back names bytes was now n few short reads
-read_writes_back names bytes was now (Err e) few short reads = tt
-
--- the letters fit in the buffer
-pub read_within : (names : List Name) (bytes was now : List ℕ) (r : Result ℕ Fault) → length now ≡ length was → Reads names bytes was now r → IfOk r (λ n. n ≤ length now)
-read_within names bytes was now (Err e) long reads = tt
-read_within names bytes was now (Ok n) long reads =
-    let fs = reads.outcome.fields in
-    let is = reads.answer.1 in
-    let sum = ap length reads.buffer ∙ length-append (codes_in names fs) (drop (length fs) was) in
-    let front = length-map fs (code_in names) in
-    let back = length-drop (length fs) was in
-    omega arith
-
-pub read_short : (names : List Name) (bytes was now : List ℕ) (r : Result ℕ Fault) → length bytes ≤ 65535 → Reads names bytes was now r → RecordRead names bytes was now r
-read_short names bytes was now r short reads = subst (λ b. MatchBool b (MatchResult r (λ _. ⊥) (λ e. told e ≡ record_fault 0 (Some 20)) × (now ≡ was)) (Reads names bytes was now r)) (sym (le-ltb 65535 (length bytes) short)) reads
-
-pub read_long : (names : List Name) (bytes was : List ℕ) → 65535 < length bytes → RecordRead names bytes was was (Err (TooLong (record { file = Record; place = 0 })))
-read_long names bytes was long = subst (λ b. MatchBool b (◌≡◌ {A = Option Told} (record_fault 0 (Some 20)) (record_fault 0 (Some 20)) × (was ≡ was)) (Reads names bytes was was (Err (TooLong (record { file = Record; place = 0 }))))) (sym (lt-ltb 65535 (length bytes) long)) (refl, refl)
-
--- a record that was read is not too long
-pub read_ok : (names : List Name) (bytes was now : List ℕ) (n : ℕ) → RecordRead names bytes was now (Ok n) → Reads names bytes was now (Ok n)
-read_ok names bytes was now n h = at_test (ltb 65535 (length bytes)) h
-  where
-    at_test : (b : Bool) → MatchBool b (⊥ × (now ≡ was)) (Reads names bytes was now (Ok n)) → Reads names bytes was now (Ok n)
-    at_test true k = absurd k.0
-    at_test false k = k
+  -- the letters that were read, written again
+  pub read_writes_back : (r : Result ℕ Fault) → IfOk r (λ n. 0 < n → listable names ≡ true) → length bytes ≤ 65535 → Reads names bytes was now r → IfOk r (λ n. WritesBack names bytes (take n now))
+  read_writes_back (Ok n) list short r =
+      let fs = r.outcome.fields in
+      let all : bytes ≡ file_of fs = whole (record_format names (length was)) bytes r.outcome r.fits r.answer.0 in
+      subst₂ (λ b c. WritesBack names b c) (sym all) (sym (read_codes names bytes was now n r)) (writes_back names (length was) fs (few_read n list r) r.fits.in_order (subst (λ b. length b ≤ 65535) all short))
+  read_writes_back (Err e) list short r = tt

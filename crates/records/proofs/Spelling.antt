@@ -1,18 +1,24 @@
 -- How a field of a record is judged.
-use Rattle.std.proofs.Common.{◌≡◌, ℕ, ◌+◌, ◌-◌, ◌*◌, ◌≤◌, Bool, true, false, cond, not, leb, List, length, is_some, Some, None, Option, unwrap_or, refl, ap, ◌∙◌, arith}
+use Rattle.std.proofs.Common.{◌≡◌, ℕ, ◌+◌, ◌-◌, ◌*◌, ◌<◌, Bool, true, false, cond, not, leb, List, length, is_some, Some, None, Ok, Err, IsOkAnd, MatchResult, Option, Result, unwrap_or, sym, refl, ap, subst, ◌∙◌, arith}
 use Rattle.std.proofs.lemmas.Bool.{cond-false, cond-true}
 use Rattle.std.proofs.lemmas.Bool.Decides.{nat_tests}
-use Rattle.fields.specs.declared.fault.Told.{Told}
+use Rattle.fields.specs.Faults.{told_at}
+use Rattle.fields.specs.declared.fault.At.{At}
+use Rattle.fields.specs.declared.fault.Fault.{Fault}
+use Rattle.fields.specs.declared.fault.Fault.TheVariants.{Tag}
 use Rattle.fields.proofs.Telling.{number_told}
 use Rattle.fields.specs.Fields.{Piece}
+use Rattle.fields.specs.Parts.{part_of, piece_of, tag_of}
+use Rattle.fields.specs.Tags.{known_tag}
+use Rattle.fields.specs.declared.field.Field.{Field}
+use Rattle.nested.specs.Letters.{code_of}
+use Rattle.nested.specs.declared.letter.Letter.{Letter}
 use Rattle.fields.specs.declared.fault.File.TheVariants.{Record}
-use Rattle.name_list.specs.Names.{Name, name_bytes, name_long, number_of}
-use Rattle.records.specs.Reading.{letter_tag, spelling_fault}
-use Rattle.records.specs.Records.{code_in, record_fault, record_format}
-
--- a letter's code, by its kind and the number of its name, is at most 47
-pub small_code : (t k : ℕ) → letter_tag t ≡ true → k ≡ (t - 1) * 16 → k ≤ 32
-small_code t k e is = let few : t ≤ 3 = grind (arith, nat_tests) in omega arith
+use Rattle.name_list.proofs.Loading.{few_listable}
+use Rattle.name_list.proofs.Numbers.{number_within}
+use Rattle.name_list.specs.Names.{Name, listable, name_bytes, name_long, number_of}
+use Rattle.records.specs.Reading.{Named, Spells, contents_fault, letter_tag, spelling_fault}
+use Rattle.records.specs.Records.{record_fault, record_format}
 
 -- four checks, and what comes behind them
 abbrev behind : Bool → Bool → Bool → Bool → Option ℕ → Option ℕ
@@ -32,37 +38,55 @@ behind_none false false true d o e = cc
 behind_none false false false true o e = cc
 behind_none false false false false o e = refl
 
+module _ (names : List Name) (contents : List ℕ) where
+  pub length_fault : name_long contents ≡ false → contents_fault names contents ≡ Some 12
+  unfolding contents_fault
+  length_fault e = cond-true _ _ _ (ap not e)
+
+  module _ (long : name_long contents ≡ true) where
+    pub byte_fault : name_bytes contents ≡ false → contents_fault names contents ≡ Some 13
+    unfolding contents_fault
+    byte_fault e = cond-false _ _ _ (ap not long) ∙ cond-true _ _ _ (ap not e)
+
+    module _ (bytes : name_bytes contents ≡ true) where
+      pub unlisted_fault : number_of names contents ≡ None → contents_fault names contents ≡ Some 19
+      unfolding contents_fault
+      unlisted_fault e = cond-false _ _ _ (ap not long) ∙ cond-false _ _ _ (ap not bytes) ∙ cond-true _ _ _ (ap (λ o. not (is_some o)) e)
+
+      pub named : (number : ℕ) → listable names ≡ true → number_of names contents ≡ Some number → (contents_fault names contents ≡ None) × (number_of names contents ≡ Some number) × (number < 16)
+      unfolding contents_fault
+      named number list e =
+          let within = number_within names contents number e in
+          let few = few_listable names list in (
+            cond-false _ _ _ (ap not long) ∙ cond-false _ _ _ (ap not bytes) ∙ cond-false _ _ _ (ap (λ o. not (is_some o)) e),
+            e,
+            omega arith,
+          )
+
+  -- a fault, told at its place
+  pub fault_told : (place k : ℕ) (at : At) → at ≡ record { file = Record; place = place } → contents_fault names contents ≡ Some k → (is_some (contents_fault names contents) ≡ true) × (Some (told_at k at) ≡ record_fault place (contents_fault names contents))
+  fault_told place k at is fault = number_told Record place k _ _ fault (ap (λ a. Some (told_at k a)) is)
+
 module _ (names : List Name) (f : Piece) where
-  pub tag_fault : letter_tag f.tag ≡ false → spelling_fault names f ≡ Some 11
+  tag_fault : letter_tag f.tag ≡ false → spelling_fault names f ≡ Some 11
   unfolding spelling_fault
   tag_fault e = cond-true _ _ _ (ap not e)
 
+  contents_behind : letter_tag f.tag ≡ true → spelling_fault names f ≡ contents_fault names f.contents
+  unfolding spelling_fault contents_fault
+  contents_behind e = cond-false _ _ _ (ap not e)
+
+  -- a field without the tag of a letter
+  pub spells_none : (place : ℕ) (at : At) → letter_tag f.tag ≡ false → at ≡ record { file = Record; place = place } → Spells names f place (Err (Tag at))
+  spells_none place at other is = number_told Record place 11 _ _ (tag_fault other) (ap (λ a. Some (told_at 11 a)) is)
+
+  -- a field with the tag of a letter, by its contents
   module _ (tag : letter_tag f.tag ≡ true) where
-    pub length_fault : name_long f.contents ≡ false → spelling_fault names f ≡ Some 12
-    unfolding spelling_fault
-    length_fault e = cond-false _ _ _ (ap not tag) ∙ cond-true _ _ _ (ap not e)
+    pub spells_letter : (place number code : ℕ) → Named names f.contents place (Ok number) → code ≡ (f.tag - 1) * 16 + number → Spells names f place (Ok code)
+    spells_letter place number code h is = (contents_behind tag ∙ h.0, let k = ap (λ o. unwrap_or o 0) h.1 in omega arith)
 
-    module _ (long : name_long f.contents ≡ true) where
-      pub byte_fault : name_bytes f.contents ≡ false → spelling_fault names f ≡ Some 13
-      unfolding spelling_fault
-      byte_fault e = cond-false _ _ _ (ap not tag) ∙ cond-false _ _ _ (ap not long) ∙ cond-true _ _ _ (ap not e)
-
-      module _ (bytes : name_bytes f.contents ≡ true) where
-        pub unlisted_fault : number_of names f.contents ≡ None → spelling_fault names f ≡ Some 19
-        unfolding spelling_fault
-        unlisted_fault e = cond-false _ _ _ (ap not tag) ∙ cond-false _ _ _ (ap not long) ∙ cond-false _ _ _ (ap not bytes) ∙ cond-true _ _ _ (ap (λ o. not (is_some o)) e)
-
-        -- the letter's code is what its kind begins at and the number of its name
-        pub spelled_code : (kind n : ℕ) → kind ≡ (f.tag - 1) * 16 → number_of names f.contents ≡ Some n → (spelling_fault names f ≡ None) × (kind + n ≡ code_in names f)
-        unfolding spelling_fault
-        spelled_code kind n is e = (
-          cond-false _ _ _ (ap not tag) ∙ cond-false _ _ _ (ap not long) ∙ cond-false _ _ _ (ap not bytes) ∙ cond-false _ _ _ (ap (λ o. not (is_some o)) e),
-          (let number = ap (λ o. unwrap_or o 0) e in omega arith),
-        )
-
-  -- a fault, told at its place
-  pub fault_told : (place n : ℕ) (t : Option Told) → spelling_fault names f ≡ Some n → t ≡ record_fault place (Some n) → (is_some (spelling_fault names f) ≡ true) × (t ≡ record_fault place (spelling_fault names f))
-  fault_told place n t fault says = number_told Record place n (spelling_fault names f) t fault says
+    pub spells_fault : (place : ℕ) (e : Fault) → Named names f.contents place (Err e) → Spells names f place (Err e)
+    spells_fault place e h = rw (contents_behind tag) h
 
   -- the record's format judges first the spelling, and then the room
   pub spelling_first : (room : ℕ) (us : List Piece) (n : ℕ) → spelling_fault names f ≡ Some n → record_format names room us f ≡ Some n
@@ -72,3 +96,23 @@ module _ (names : List Name) (f : Piece) where
   pub room_last : (room : ℕ) (us : List Piece) → spelling_fault names f ≡ None → record_format names room us f ≡ cond (leb room (length us)) (Some 21) None
   unfolding spelling_fault record_format
   room_last room us e = behind_none (not (letter_tag f.tag)) (not (name_long f.contents)) (not (name_bytes f.contents)) (not (is_some (number_of names f.contents))) (cond (leb room (length us)) (Some 21) None) e
+
+pub other_letter : (t : ℕ) → known_tag t ≡ false → letter_tag t ≡ false
+other_letter t e = grind (arith, nat_tests)
+
+-- What a field spells, by its case.
+module _ (names : List Name) (field x : Field) (is : field ≡ x) where
+  abbrev Spelled : Field → Result Letter Fault → Type 0
+  Spelled f r = MatchResult r (λ l. Spells names (piece_of f) (part_of f).place (Ok (code_of l))) (λ e. Spells names (piece_of f) (part_of f).place (Err e))
+
+  pub spells_no_letter : (at : At) → letter_tag (tag_of x) ≡ false → at ≡ record { file = Record; place = (part_of x).place } → Spelled field (Err (Tag at))
+  spells_no_letter at other placed = subst (λ f. Spelled f (Err (Tag at))) (sym is) (spells_none names (piece_of x) (part_of x).place at other placed)
+
+  module _ (kind : ℕ → Letter) (tag : letter_tag (tag_of x) ≡ true) (coded : (k : ℕ) → k < 16 → code_of (kind k) ≡ (tag_of x - 1) * 16 + k) where
+    in_case : (q : Result ℕ Fault) → Named names (part_of x).contents.now (part_of x).place q → (r : Result Letter Fault) → MatchResult q (λ k. IsOkAnd r (λ l. l ≡ kind k)) (λ e. r ≡ Err e) → Spelled x r
+    in_case (Ok k) named (Ok l) same = spells_letter names (piece_of x) tag (part_of x).place k (code_of l) named (ap code_of same ∙ coded k named.2)
+    in_case (Ok k) named (Err e) same = absurd same
+    in_case (Err e) named r same = rw same (spells_fault names (piece_of x) tag (part_of x).place e named)
+
+    pub spells_named : (q : Result ℕ Fault) → Named names (part_of x).contents.now (part_of x).place q → (r : Result Letter Fault) → MatchResult q (λ k. IsOkAnd r (λ l. l ≡ kind k)) (λ e. r ≡ Err e) → Spelled field r
+    spells_named q named r same = subst (λ f. Spelled f r) (sym is) (in_case q named r same)

@@ -1,16 +1,24 @@
 -- Writing letters: the bytes of one field, the faults of one letter, and the letters one by one.
-use Rattle.std.proofs.Common.{◌≡◌, ℕ, ◌+◌, ◌-◌, ◌/◌, ◌%◌, ◌<◌, ◌≤◌, min, true, List, [], ◌∷◌, ◌++◌, map, length, get_or, take, drop, is_some, Some, None, Ok, Err, Option, sym, refl, ap, ◌∙◌, ap₂, arith, below_none, below_more}
+use Rattle.std.proofs.Common.{◌≡◌, ℕ, ◌+◌, ◌-◌, ◌/◌, ◌%◌, ◌<◌, ◌≤◌, min, ltb, Bool, true, false, cond, List, [], ◌∷◌, ◌++◌, map, length, get_or, take, drop, is_some, Some, None, Ok, Option, Result, sym, refl, ap, ◌∙◌, ap₂, subst, arith, below_more}
+use Rattle.std.specs.Option.{ok_or}
 use borrow.Rule.Slice.PartMut.{put_mid}
 use Rattle.std.proofs.lemmas.List.{append_assoc, drop_at, drop-drop, length-append, map-append, take_all, take_at, take_more}
 use Rattle.std.proofs.lemmas.Slice.{drop-put_mid, take-put_mid}
+use Rattle.std.proofs.lemmas.Bool.{cond_both, ltb-false, ltb-true}
 use Rattle.std.proofs.lemmas.Bool.Decides.{nat_tests}
 use Rattle.fields.proofs.Fronts.{file_of_more}
 use Rattle.fields.specs.Fields.{file_of, written}
-use Rattle.fields.specs.declared.fault.Fault.{Fault}
+use Rattle.fields.specs.Faults.{told_at}
+use Rattle.fields.specs.declared.fault.At.{At}
+use Rattle.fields.specs.declared.fault.File.TheVariants.{Record}
 use Rattle.name_list.specs.Names.{Name, listable}
 use Rattle.records.proofs.RoundTrips.{reads_back}
-use Rattle.records.specs.Records.{ReadsBack, Writes, fault_at, field_in, letter_fault, record_fault, spelled}
-use Rattle.records.specs.Writing.{LetterWritten, head_bytes, piece, with_field}
+use Rattle.records.specs.Records.{ReadsBack, fault_at, field_in, letter_fault, record_fault, spelled}
+use Rattle.nested.specs.Letters.{letter_at, letter_of, name_of}
+use Rattle.nested.specs.declared.letter.Letter.{Letter}
+use Rattle.nested.specs.declared.letter.NotALetter.{NotALetter}
+use Rattle.nested.specs.declared.letter.Letter.TheVariants.{Call, Return, Internal}
+use Rattle.records.specs.Writing.{LetterWritten, head_bytes, piece, tag_in, with_field}
 
 -- a field's head is copied, and then its contents behind it
 pub field_put : (was : List ℕ) (used t : ℕ) (cs head body : List ℕ) → used + (3 + length cs) ≤ length was → head ≡ head_bytes t (length cs) → body ≡ cs → put_mid (used + 3) (used + 3 + length cs - (used + 3)) (put_mid used (used + 3 - used) was head) body ≡ with_field was used (piece t cs)
@@ -23,6 +31,38 @@ field_put was used t cs head body room is_head is_IsBody =
     let behind : drop past (drop (used + 3) headed) ≡ drop end was = drop-drop past (used + 3) headed ∙ drop-put_mid used (used + 3 - used) was head (used + 3 + past) (omega arith) (omega arith) (omega arith) ∙ ap (λ n. drop n was) (omega arith) in
     ap₂ (λ a b. a ++ (body ++ b)) front behind ∙ append_assoc (take used was) head (body ++ drop end was) ∙ ap₂ (λ h b. take used was ++ (h ++ (b ++ drop end was))) is_head is_IsBody
 
+-- what holds of a letter of each kind holds of that of a code
+letter_cases : (P : Letter → Type 0) (code : ℕ) → (code < 16 → P (Call code)) → (16 ≤ code → code < 32 → P (Return (code - 16))) → (32 ≤ code → P (Internal (code - 32))) → P (letter_of code)
+letter_cases P code call return internal =
+    cond_both (ltb code 16) _ _ P (λ e. call (ltb-true code 16 e)) (λ e. cond_both (ltb code 32) _ _ P (λ f. return (ltb-false code 16 e) (ltb-true code 32 f)) (λ f. internal (ltb-false code 32 f)))
+
+some_if : (b : Bool) (k l : Letter) → cond b (Some k) None ≡ Some l → (b ≡ true) × (k ≡ l)
+some_if true k l e = (refl, cc)
+some_if false k l e = cc
+
+none_if : (b : Bool) (k : Letter) → cond b (Some k) None ≡ None → b ≡ false
+none_if true k e = cc
+none_if false k e = refl
+
+ok_from : (o : Option Letter) (d : NotALetter) (l : Letter) → ok_or o d ≡ Ok l → o ≡ Some l
+ok_from None d l is = cc
+ok_from (Some k) d l is = cc
+
+-- what reading a code as a letter tells of it
+pub letter_read : (code : ℕ) (r : Result Letter NotALetter) (l : Letter) → r ≡ ok_or (letter_at code) (record { 0 = code }) → r ≡ Ok l → letter_at code ≡ Some l
+letter_read code r l value is = ok_from (letter_at code) _ l (sym value ∙ is)
+
+no_letter : (code : ℕ) → letter_at code ≡ None → 47 < code
+no_letter code none = let high = ltb-false code 48 (none_if _ _ none) in omega arith
+
+-- what a letter's code tells of its field
+letter_parts : (code : ℕ) (l : Letter) → letter_at code ≡ Some l → (code ≤ 47) × (tag_in l ≡ 1 + code / 16) × (name_of l ≡ code % 16)
+letter_parts code l is =
+    let (low, same) = some_if _ _ l is in
+    let letter = ltb-true code 48 low in
+    let parts = subst (λ k. (tag_in k ≡ 1 + code / 16) × (name_of k ≡ code % 16)) same (letter_cases (λ k. (tag_in k ≡ 1 + code / 16) × (name_of k ≡ code % 16)) code (λ h. (omega arith, omega arith)) (λ h k. (omega arith, omega arith)) (λ h. (omega arith, omega arith))) in
+    (omega arith, parts.0, parts.1)
+
 module _ (names : List Name) where
   -- what a letter without fault has
   letter_fits : (room used code : ℕ) → letter_fault names room used code ≡ None → (code ≤ 47) × (code % 16 < length names) × (used + length (written (field_in names code)) ≤ min room 65535)
@@ -34,35 +74,37 @@ module _ (names : List Name) where
     abbrev fault : Option ℕ
     fault = letter_fault names (length was) used code
 
-    -- it has the fault n, and nothing is written
-    abbrev Faulty : ℕ → Type 0
-    Faulty n = (is_some fault ≡ true) × (record_fault k (Some n) ≡ record_fault k fault) × (was ≡ was)
+    module _ (at : At) (here : at ≡ record { file = Record; place = k }) where
+      -- it has the fault n, which is told, and nothing is written
+      abbrev Faulty : ℕ → Type 0
+      Faulty n = (is_some fault ≡ true) × (Some (told_at n at) ≡ record_fault k fault) × (was ≡ was)
 
-    faulty : (n : ℕ) → fault ≡ Some n → Faulty n
-    faulty n is = (ap is_some is, ap (record_fault k) (sym is), refl)
+      faulty : (n : ℕ) → fault ≡ Some n → Faulty n
+      faulty n is = (ap is_some is, ap (λ a. Some (told_at n a)) here ∙ ap (record_fault k) (sym is), refl)
 
-    pub not_a_letter : 47 < code → Faulty 1
-    unfolding letter_fault
-    not_a_letter h = faulty 1 (grind (arith, nat_tests))
-
-    module _ (low : code ≤ 47) where
-      pub unlisted : length names ≤ code % 16 → Faulty 19
+      pub not_a_letter : letter_at code ≡ None → Faulty 1
       unfolding letter_fault
-      unlisted h = faulty 19 (grind (arith, nat_tests))
+      not_a_letter none = let high = no_letter code none in faulty 1 (grind (arith, nat_tests))
 
-      module _ (name : Name) (number : ℕ) (is : number ≡ code % 16) (named : (number < length names) × (name ≡ get_or names number [])) where
-        named_here : name ≡ get_or names (code % 16) []
-        named_here = named.1 ∙ ap (λ n. get_or names n []) is
-
-        pub no_room : min (length was) 65535 < used + 3 + length name → Faulty 21
+      module _ (l : Letter) (letter : letter_at code ≡ Some l) where
+        pub unlisted : length names ≤ name_of l → Faulty 19
         unfolding letter_fault
-        no_room h = let long = ap length named_here in faulty 21 (grind (arith, nat_tests))
+        unlisted h = let (low, tag, number) = letter_parts code l letter in faulty 19 (grind (arith, nat_tests))
 
-        pub letter_put : (now : List ℕ) → used + 3 + length name ≤ min (length was) 65535 → now ≡ with_field was used (piece (1 + code / 16) name) → LetterWritten names k code used was now (Ok (used + 3 + length name))
+        pub no_room : (name : Name) → (name_of l < length names) × (name ≡ get_or names (name_of l) []) → min (length was) 65535 < used + 3 + length name → Faulty 21
         unfolding letter_fault
-        letter_put now fits put =
-            let long = ap length named_here in
-            (grind (arith, nat_tests), omega arith, put ∙ ap (λ cs. with_field was used (piece (1 + code / 16) cs)) named_here)
+        no_room name named h =
+            let (low, tag, number) = letter_parts code l letter in
+            let long = ap length (named.1 ∙ ap (λ n. get_or names n []) number) in
+            faulty 21 (grind (arith, nat_tests))
+
+    pub letter_put : (l : Letter) → letter_at code ≡ Some l → (name : Name) → (name_of l < length names) × (name ≡ get_or names (name_of l) []) → (now : List ℕ) → used + 3 + length name ≤ min (length was) 65535 → now ≡ with_field was used (piece (tag_in l) name) → LetterWritten names k code used was now (Ok (used + 3 + length name))
+    unfolding letter_fault
+    letter_put l letter name named now fits put =
+        let (low, tag, number) = letter_parts code l letter in
+        let here : name ≡ get_or names (code % 16) [] = named.1 ∙ ap (λ n. get_or names n []) number in
+        let long = ap length here in
+        (grind (arith, nat_tests), omega arith, put ∙ ap₂ (λ t cs. with_field was used (piece t cs)) tag here)
 
   spelled_more : (codes : List ℕ) (i : ℕ) → i < length codes → spelled names (take (i + 1) codes) ≡ spelled names (take i codes) ++ written (field_in names (get_or codes i 0))
   spelled_more codes i h =
@@ -74,17 +116,15 @@ module _ (names : List Name) where
     pub short : used ≤ 65535
     pub before : (k : ℕ) → k < i → fault_at names (length was) codes k ≡ None
     pub buffer : now ≡ spelled names (take i codes) ++ drop used was
+    pub list : 0 < i → listable names ≡ true
 
   module _ (codes was : List ℕ) where
-    pub so_far_none : WrittenSoFar codes was 0 0 was
-    so_far_none = record { reached = refl; short = omega arith; before = below_none _; buffer = refl }
-
     module _ (i used : ℕ) (now : List ℕ) (f : WrittenSoFar codes was i used now) where
       fault_here : length now ≡ length was → fault_at names (length was) codes i ≡ letter_fault names (length now) used (get_or codes i 0)
       fault_here long = ap₂ (λ room n. letter_fault names room n (get_or codes i 0)) (sym long) (sym f.reached)
 
-      pub so_far_more : (n : ℕ) (now' : List ℕ) → i < length codes → length now ≡ length was → LetterWritten names i (get_or codes i 0) used now now' (Ok n) → WrittenSoFar codes was (i + 1) n now'
-      so_far_more n now' within long w =
+      pub so_far_more : (n : ℕ) (now' : List ℕ) → i < length codes → length now ≡ length was → LetterWritten names i (get_or codes i 0) used now now' (Ok n) → listable names ≡ true → WrittenSoFar codes was (i + 1) n now'
+      so_far_more n now' within long w list =
           let bytes = written (field_in names (get_or codes i 0)) in
           let front = spelled names (take i codes) in
           let more = spelled_more codes i within in
@@ -97,31 +137,12 @@ module _ (names : List Name) where
             short = omega arith;
             before = below_more _ i f.before (fault_here long ∙ w.0);
             buffer = w.2 ∙ ap₂ (λ a b. a ++ (bytes ++ b)) taken behind ∙ sym (ap (λ a. a ++ drop n was) more ∙ append_assoc front bytes (drop n was));
-          }
-
-      filled : now ≡ spelled names (take i codes) ++ drop (length (spelled names (take i codes))) was
-      filled = f.buffer ∙ ap (λ n. spelled names (take i codes) ++ drop n was) f.reached
-
-      -- the next letter has a fault
-      pub writes_stopped : (now' : List ℕ) (e : Fault) → i < length codes → length now ≡ length was → LetterWritten names i (get_or codes i 0) used now now' (Err e) → Writes names codes was now' (Err e)
-      writes_stopped now' e within long w =
-          let same = fault_here long in
-          record {
-            count = i;
-            before = f.before;
-            buffer = w.2 ∙ filled;
-            answer = (within, ap is_some same ∙ w.0, w.1 ∙ ap (record_fault i) (sym same));
+            list = λ _. list;
           }
 
       module _ (end : i ≡ length codes) where
         all : take i codes ≡ codes
         all = take_all i codes (omega arith)
 
-        pub writes_whole : Writes names codes was now (Ok used)
-        writes_whole = record { count = i; before = f.before; buffer = filled; answer = (end, f.reached ∙ ap (λ cs. length (spelled names cs)) all) }
-
-        pub reads_whole : listable names ≡ true → ReadsBack names codes
-        reads_whole list =
-            let long = f.reached ∙ ap (λ cs. length (spelled names cs)) all in
-            let letter = λ (k : ℕ) (h : k < length codes). letter_fits _ _ (get_or codes k 0) (f.before k (omega arith)) in
-            reads_back names codes list (λ k h. ((letter k h).0, (letter k h).1)) (omega (arith, f.short))
+        pub reads_whole : ReadsBack names codes
+        reads_whole = reads_back names codes (λ some. f.list (omega arith)) (λ k h. let (low, listed, fits) = letter_fits _ _ (get_or codes k 0) (f.before k (omega arith)) in (low, listed)) (let long = f.reached ∙ ap (λ cs. length (spelled names cs)) all in omega (arith, f.short))

@@ -1,5 +1,5 @@
 -- What the reader's parts answer of one field.
-use Rattle.std.specs.Prelude.{◌≡◌, ℕ, ◌-◌, ◌*◌, Bool, true, false, not, ◌||◌, List, [], ◌∷◌, is_some, Some, None, Ok, Err, Option, Result, ◌==◌}
+use Rattle.std.specs.Prelude.{◌≡◌, ℕ, ◌<◌, Bool, true, not, ◌||◌, List, [], ◌∷◌, is_some, Some, None, Ok, Err, Option, Result, ◌==◌}
 use Rattle.fields.specs.Faults.{told}
 use Rattle.fields.specs.Fields.{Piece}
 use Rattle.fields.specs.Outcomes.{first_fault}
@@ -11,10 +11,18 @@ use Rattle.records.specs.Records.{code_in, record_fault}
 abbrev pub letter_tag : ℕ → Bool
 letter_tag t = t == 1 || (t == 2 || t == 3)
 
--- what a letter's code begins at, by the tag
-abbrev pub Kind : ℕ → Option ℕ → Type 0
-Kind t None = letter_tag t ≡ false
-Kind t (Some k) = (letter_tag t ≡ true) × (k ≡ (t - 1) * 16)
+-- the fault of the contents of a letter's field, room aside
+unfoldable pub contents_fault : List Name → List ℕ → Option ℕ
+contents_fault names contents = first_fault
+    (record { fires = not (name_long contents); number = 12 }
+    ∷ (record { fires = not (name_bytes contents); number = 13 }
+    ∷ (record { fires = not (is_some (number_of names contents)); number = 19 }
+    ∷ [])))
+
+-- the number of the name that a letter's field holds, or the fault of its contents, told at its place
+abbrev pub Named : List Name → List ℕ → ℕ → Result ℕ Fault → Type 0
+Named names contents place (Ok number) = (contents_fault names contents ≡ None) × (number_of names contents ≡ Some number) × (number < 16)
+Named names contents place (Err e) = (is_some (contents_fault names contents) ≡ true) × (told e ≡ record_fault place (contents_fault names contents))
 
 -- the fault of a field that spells no letter, room aside
 unfoldable pub spelling_fault : List Name → Piece → Option ℕ

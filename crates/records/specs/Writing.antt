@@ -4,6 +4,8 @@ use Rattle.fields.specs.Faults.{told}
 use Rattle.fields.specs.Fields.{Piece, written}
 use Rattle.fields.specs.declared.fault.Fault.{Fault}
 use Rattle.name_list.specs.Names.{Name}
+use Rattle.nested.specs.declared.letter.Letter.{Letter}
+use Rattle.nested.specs.declared.letter.Letter.TheVariants.{Call, Return, Internal}
 use Rattle.records.specs.Records.{field_in, letter_fault, record_fault}
 
 -- the bytes of a field in front of n bytes of contents
@@ -12,6 +14,12 @@ head_bytes t n = t ∷ (n / 256 ∷ (n % 256 ∷ []))
 
 abbrev pub piece : ℕ → List ℕ → Piece
 piece t bytes = record { tag = t; contents = bytes }
+
+-- the tag of a letter's field
+abbrev pub tag_in : Letter → ℕ
+tag_in (Call a) = 1
+tag_in (Return b) = 2
+tag_in (Internal a) = 3
 
 -- a buffer with a field's bytes behind the first `used` ones
 abbrev pub with_field : List ℕ → ℕ → Piece → List ℕ

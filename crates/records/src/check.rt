@@ -1,7 +1,8 @@
 // A record checked with a machine.
-ghost use Rattle.std.specs.Prelude.{◌≡◌};
-ghost use Rattle.name_list.specs.Names.{names_of};
+ghost use Rattle.std.specs.Prelude.{◌≡◌, Some};
 ghost use Rattle.records.specs.Checking.{Checks};
+ghost use Rattle.records.specs.Texts.{unchecked_text};
+ghost use Rattle.records.specs.declared.check.Unchecked.TheVariants.{Faulty, Refused};
 
 use crate::read::read_record;
 use fields::fault::Fault;
@@ -10,13 +11,44 @@ use nested::machine::Machine;
 use nested::mark::Mark;
 use nested::standing::{Standing, Stop};
 use nested::word::follow_word;
+use std::error::Error;
+use std::fmt;
 
 /// Why a record was not checked: the file has a fault, or a letter of it was refused.
-#[derive(Clone, Copy)]
+#[derive(Clone, Copy, PartialEq, Debug)]
 pub enum Unchecked {
     Faulty(Fault),
     Refused(Stop),
 }
+
+impl From<Fault> for Unchecked {
+    ghost from_gives = { λ fault r. r ≡ Faulty fault };
+
+    fn from(fault: Fault) -> Unchecked {
+        Unchecked::Faulty(fault)
+    }
+}
+
+impl From<Stop> for Unchecked {
+    ghost from_gives = { λ stop r. r ≡ Refused stop };
+
+    fn from(stop: Stop) -> Unchecked {
+        Unchecked::Refused(stop)
+    }
+}
+
+impl fmt::Display for Unchecked {
+    ghost output = { λ e. Some (unchecked_text e) };
+
+    fn fmt<W: fmt::Write>(&self, f: &mut fmt::Formatter<W>) -> fmt::Result {
+        match self {
+            Unchecked::Faulty(fault) => write!(f, "{fault}"),
+            Unchecked::Refused(stop) => write!(f, "{stop}"),
+        }
+    }
+}
+
+impl Error for Unchecked {}
 
 /// Reads a record with a name list and follows it with a machine, in memory lent by the caller.
 ///
@@ -29,14 +61,8 @@ pub fn check_record<M: Machine>(
     codes: &mut [u8],
     marks: &mut [Mark<M::State>],
 ) -> Result<Standing, Unchecked>
-    ensures { Checks (M.Machine.meaning machine.now) (names_of names.now.names) bytes.now codes.old codes.new marks.old marks.new result }
+    ensures { Checks (M.Machine.meaning machine.now) names.now bytes.now codes.old codes.new marks.old marks.new result }
 {
-    let count = match read_record(names, bytes, codes) {
-        Ok(count) => count,
-        Err(fault) => return Err(Unchecked::Faulty(fault)),
-    };
-    match follow_word(machine, &codes[0..count], marks) {
-        Ok(standing) => Ok(standing),
-        Err(stop) => Err(Unchecked::Refused(stop)),
-    }
+    let count = read_record(names, bytes, codes)?;
+    Ok(follow_word(machine, &codes[0..count], marks)?)
 }

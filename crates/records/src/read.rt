@@ -1,47 +1,28 @@
 // Reading a record.
-ghost use Rattle.std.specs.Prelude.{◌≡◌, ◌≤◌, length, take, IfOk};
+ghost use Rattle.std.specs.Prelude.{◌≡◌, ◌<◌, ◌≤◌, true, length, take, Ok, Err, IfOk, MatchResult, OnOk};
 ghost use Rattle.fields.specs.Outcomes.{OneOutcome};
-ghost use Rattle.fields.specs.Parts.{field_of, part_of, piece_of, tag_of};
-ghost use Rattle.name_list.specs.Names.{names_of};
-ghost use Rattle.records.specs.Reading.{Kind, Spells};
-ghost use Rattle.records.specs.Records.{Reads, RecordRead, WritesBack, record_format};
+ghost use Rattle.fields.specs.Parts.{part_of, piece_of};
+ghost use Rattle.name_list.specs.Names.{listable};
+ghost use Rattle.nested.specs.Letters.{code_of};
+ghost use Rattle.records.specs.Reading.{Named, Spells};
+ghost use Rattle.records.specs.Records.{Reads, RecordRead, WritesBack, record_format, spelled};
 
-use fields::fault::{At, Fault, File};
-use fields::field::Field;
+use fields::fault::{Fault, File};
+use fields::field::{Field, Part};
 use fields::reader::Fields;
 use name_list::list::NameList;
 use name_list::name::{has_name_bytes, has_name_length};
+use nested::letter::Letter;
 
 /// The most bytes that a record has.
 pub const LONGEST_RECORD: usize = 65535;
 
-// What the code of a field's letter begins at: 0 for a call, 16 for a return, 32 for an internal letter.
-fn kind(field: Field) -> Option<u8>
-    requires { field ≡ field_of (tag_of field) (part_of field) }
-    ensures { Kind (tag_of field.entry) result }
+// The number of the name that a letter's field holds, or what is wrong with the contents.
+fn name_number(names: &NameList, part: Part) -> Result<u8, Fault>
+    ensures number { Named names.now part.entry.contents.now part.entry.place result }
+    ensures list { OnOk result (listable names.now ≡ true) }
 {
-    match field {
-        Field::Call(_) => Some(0),
-        Field::Return(_) => Some(16),
-        Field::Internal(_) => Some(32),
-        Field::Name(_) => None,
-        Field::Other(_, _) => None,
-    }
-}
-
-// The code of the letter that a field spells, or what is wrong with the field.
-fn letter_code(names: &NameList, field: Field) -> Result<u8, Fault>
-    requires { field ≡ field_of (tag_of field) (part_of field) }
-    ensures { Spells (names_of names.now.names) (piece_of field.entry) (part_of field.entry).place result }
-{
-    let part = field.part();
-    let at = At {
-        file: File::Record,
-        place: part.place,
-    };
-    let Some(kind) = kind(field) else {
-        return Err(Fault::Tag(at));
-    };
+    let at = File::Record.at(part.place);
     if !has_name_length(part.contents) {
         return Err(Fault::Length(at));
     }
@@ -49,25 +30,37 @@ fn letter_code(names: &NameList, field: Field) -> Result<u8, Fault>
         return Err(Fault::Byte(at));
     }
     match names.find(part.contents) {
-        Some(number) => Ok(kind + number as u8),
+        Some(number) => Ok(number as u8),
         None => Err(Fault::Unlisted(at)),
     }
 }
 
-// Reads a record that is not too long.
+// The letter that a field spells, or what is wrong with the field.
+fn letter(names: &NameList, field: Field) -> Result<Letter, Fault>
+    ensures letter { MatchResult result (λ l. Spells names.now (piece_of field.entry) (part_of field.entry).place (Ok (code_of l))) (λ e. Spells names.now (piece_of field.entry) (part_of field.entry).place (Err e)) }
+    ensures list { OnOk result (listable names.now ≡ true) }
+{
+    match field {
+        Field::Call(part) => name_number(names, part).map(Letter::Call),
+        Field::Return(part) => name_number(names, part).map(Letter::Return),
+        Field::Internal(part) => name_number(names, part).map(Letter::Internal),
+        Field::Name(part) => Err(Fault::Tag(File::Record.at(part.place))),
+        Field::Other(_, part) => Err(Fault::Tag(File::Record.at(part.place))),
+    }
+}
+
+// Reads a record that is not too long. The count is the answer and the place of the next code, so an iterator over `codes` would be
+// one thing more beside it.
 fn read_fields(names: &NameList, bytes: &[u8], codes: &mut [u8]) -> Result<usize, Fault>
-    ensures { Reads (names_of names.now.names) bytes.now codes.old codes.new result }
+    ensures reads { Reads names.now bytes.now codes.old codes.new result }
+    ensures list { IfOk result (λ n. 0 < n → listable names.now ≡ true) }
 {
     let mut fields = Fields::new(File::Record, bytes);
     let mut count = 0;
     while let Some(field) = fields.next()? {
-        let code = letter_code(names, field)?;
+        let code = u8::from(letter(names, field)?);
         if count >= codes.len() {
-            let place = field.part().place;
-            return Err(Fault::NoRoom(At {
-                file: File::Record,
-                place,
-            }));
+            return Err(Fault::NoRoom(File::Record.at(field.part().place)));
         }
         codes[count] = code;
         count += 1;
@@ -81,16 +74,14 @@ fn read_fields(names: &NameList, bytes: &[u8], codes: &mut [u8]) -> Result<usize
 /// it is cut by the end, if its tag is not that of a letter, if its contents are not as long as a name, hold a byte that no name has,
 /// or are not listed, or if `codes` has no room for its letter. The letters before a refused field stand in `codes`.
 pub fn read_record(names: &NameList, bytes: &[u8], codes: &mut [u8]) -> Result<usize, Fault>
-    ensures reads { RecordRead (names_of names.now.names) bytes.now codes.old codes.new result }
+    ensures reads { RecordRead names.now bytes.now codes.old codes.new result }
     ensures within { IfOk result (λ n. n ≤ length codes.new) }
-    ensures only { OneOutcome (record_format (names_of names.now.names) (length codes.old)) bytes.now }
-    ensures writes_back { IfOk result (λ n. WritesBack (names_of names.now.names) bytes.now (take n codes.new)) }
+    ensures only { OneOutcome (record_format names.now (length codes.old)) bytes.now }
+    ensures spells { IfOk result (λ n. bytes.now ≡ spelled names.now (take n codes.new)) }
+    ensures writes_back { IfOk result (λ n. WritesBack names.now bytes.now (take n codes.new)) }
 {
     if bytes.len() > LONGEST_RECORD {
-        return Err(Fault::TooLong(At {
-            file: File::Record,
-            place: 0,
-        }));
+        return Err(Fault::TooLong(File::Record.at(0)));
     }
     read_fields(names, bytes, codes)
 }

@@ -1,19 +1,22 @@
 // Writing a record.
-ghost use Rattle.std.specs.Prelude.{◌≡◌, ◌+◌, ◌≤◌, length, OnOk};
-ghost use Rattle.name_list.specs.Names.{names_of};
+ghost use Rattle.std.specs.Prelude.{◌≡◌, ◌+◌, ◌≤◌, true, length, OnOk};
+ghost use Rattle.name_list.specs.Names.{listable};
+ghost use Rattle.nested.specs.Letters.{name_of};
 ghost use Rattle.records.specs.Records.{ReadsBack, Writes};
-ghost use Rattle.records.specs.Writing.{LetterWritten, head_bytes, piece, with_field};
+ghost use Rattle.records.specs.Writing.{LetterWritten, head_bytes, piece, tag_in, with_field};
 
 use crate::read::LONGEST_RECORD;
-use fields::fault::{At, Fault, File};
+use fields::fault::{Fault, File};
 use name_list::list::NameList;
+use nested::letter::Letter;
 
 // The bytes of a field in front of its contents: its tag, and its length with the high byte first.
 fn field_head(tag: u8, length: usize) -> [u8; 3]
     requires { length ≤ 65535 }
     ensures { result ≡ head_bytes tag length }
 {
-    [tag, (length / 256) as u8, (length % 256) as u8]
+    let [high, low] = (length as u16).to_be_bytes();
+    [tag, high, low]
 }
 
 // Writes a field behind the first `used` bytes, where there is room for it.
@@ -27,6 +30,18 @@ fn put_field(out: &mut [u8], used: usize, tag: u8, contents: &[u8])
     out[behind..behind + contents.len()].copy_from_slice(contents);
 }
 
+// The tag of a letter's field, and the number of its name.
+fn tag_and_number(letter: Letter) -> (u8, u8)
+    ensures tag { result.0 ≡ tag_in letter }
+    ensures number { result.1 ≡ name_of letter }
+{
+    match letter {
+        Letter::Call(number) => (1, number),
+        Letter::Return(number) => (2, number),
+        Letter::Internal(number) => (3, number),
+    }
+}
+
 // Writes the letter with this index behind the first `used` bytes, and answers where its bytes end, or what is wrong with it.
 fn put_letter(
     names: &NameList,
@@ -36,23 +51,22 @@ fn put_letter(
     out: &mut [u8],
 ) -> Result<usize, Fault>
     requires { used ≤ 65535 }
-    ensures { LetterWritten (names_of names.now.names) index code used out.old out.new result }
+    ensures written { LetterWritten names.now index code used out.old out.new result }
+    ensures list { OnOk result (listable names.now ≡ true) }
 {
-    let at = At {
-        file: File::Record,
-        place: index,
-    };
-    if code > 47 {
+    let at = File::Record.at(index);
+    let Ok(letter) = Letter::try_from(code) else {
         return Err(Fault::NotALetter(at));
-    }
-    let Some(name) = names.name(usize::from(code % 16)) else {
+    };
+    let (tag, number) = tag_and_number(letter);
+    let Some(name) = names.name(usize::from(number)) else {
         return Err(Fault::Unlisted(at));
     };
     let end = used + 3 + name.len();
     if end > out.len().min(LONGEST_RECORD) {
         return Err(Fault::NoRoom(at));
     }
-    put_field(out, used, 1 + code / 16, name);
+    put_field(out, used, tag, name);
     Ok(end)
 }
 
@@ -63,8 +77,8 @@ fn put_letter(
 /// record would have more than 65,535 bytes. The bytes of the letters before it then stand in the buffer. The rest of the buffer is
 /// as it was in either case.
 pub fn write_record(names: &NameList, codes: &[u8], out: &mut [u8]) -> Result<usize, Fault>
-    ensures writes { Writes (names_of names.now.names) codes.now out.old out.new result }
-    ensures reads_back { OnOk result (ReadsBack (names_of names.now.names) codes.now) }
+    ensures writes { Writes names.now codes.now out.old out.new result }
+    ensures reads_back { OnOk result (ReadsBack names.now codes.now) }
 {
     let mut used = 0;
     for (index, code) in codes.iter().enumerate() {

@@ -1,6 +1,6 @@
 -- What one call answers, with rows of the lengths at opening.
 use Rattle.std.proofs.Common.{◌≡◌, ℕ, zero, suc, ◌+◌, ◌-◌, ◌<◌, ◌≤◌, min, Bool, true, false, cond, ltb, ◌⊎◌, List, [], ◌∷◌, length, Some, None, Ok, Err, vec_items, Result, sym, refl, ap, ◌∙◌, subst, inl, inr, ⊎_elim, arith}
-use Rattle.std.proofs.lemmas.Bool.{both_ways, cases_Bool, cases_lt, cond_both, cond-false, cond-true, ltb-true}
+use Rattle.std.proofs.lemmas.Bool.{cases_Bool, cases_lt, cond_both, cond-false, cond-true, ltb-true}
 use Rattle.nested.specs.Automata.{Automaton}
 use Rattle.nested.specs.Reading.{Satisfies}
 use Rattle.nested.specs.declared.letter.Letter.{Letter}
@@ -55,10 +55,10 @@ module _ (t : Bool) (P Q : Type 0) where
   along V W f h = either_way (λ e is. subst (λ u. cond u V W) (sym e) (f is)) (λ e is. subst (λ u. cond u V W) (sym e) (h is))
 
 pub found_from : (v : Verdict) → is_found v ≡ true → v ≡ verdict.Found
-found_from verdict.None e = absurd (both_ways false refl e)
+found_from verdict.None e = (cc)
 found_from verdict.Found e = refl
-found_from verdict.Full e = absurd (both_ways false refl e)
-found_from verdict.Running e = absurd (both_ways false refl e)
+found_from verdict.Full e = (cc)
+found_from verdict.Running e = (cc)
 
 module _ {S : Type 0} where
   -- the rows have the lengths at opening
@@ -86,12 +86,12 @@ module _ {S : Type 0} where
       module _ (found : is_found b.at.verdict ≡ true) where
         told_long : (e : List ℕ) → word_refusal b (length was) ≡ Some e → (long ≡ true) × (too_long ≡ e)
         told_long e is = cond_both long (Some too_long) None (λ o. o ≡ Some e → (long ≡ true) × (too_long ≡ e))
-            (λ so same. (so, (cc))) (λ _ same. absurd (let no : ◌≡◌ {A = ℕ} 0 1 = cc in omega arith)) (sym (cond-true _ _ _ own ∙ cond-true _ _ _ found) ∙ is)
+            (λ so same. (so, (cc))) (λ _ same. (cc)) (sym (cond-true _ _ _ own ∙ cond-true _ _ _ found) ∙ is)
 
         pub hands_out : (now : List ℕ) (r : Result ℕ Unwritten) → GivesWord b was now r → HandsOut (own_word b) was now r
         hands_out now (Ok n) (_, written) = (written.count, written.short, written.room, written.buffer)
-        hands_out now (Err RowLength) (is, _) = let (_, e) = told_long (told RowLength) is in let no : ◌≡◌ {A = ℕ} 0 1 = cc in omega arith
-        hands_out now (Err NotFound) (is, _) = let (_, e) = told_long (told NotFound) is in let no : ◌≡◌ {A = ℕ} 0 1 = cc in omega arith
+        hands_out now (Err RowLength) (is, _) = let (_, e) = told_long (told RowLength) is in (cc)
+        hands_out now (Err NotFound) (is, _) = let (_, e) = told_long (told NotFound) is in (cc)
         hands_out now (Err (TooLong n)) (is, same) = let (so, e) = told_long (told (TooLong n)) is in ((cc), too_far so, same)
 
       -- where none was found, the buffer is as it was
@@ -100,10 +100,10 @@ module _ {S : Type 0} where
         told_none = cond-true _ _ _ own ∙ cond-false _ _ _ none
 
         pub hands_none : (now : List ℕ) (r : Result ℕ Unwritten) → GivesWord b was now r → TrueWord A was now r
-        hands_none now (Ok n) (is, _) = let e = sym told_none ∙ is in absurd (let no : ◌≡◌ {A = ℕ} 0 1 = cc in omega arith)
-        hands_none now (Err RowLength) (is, _) = let e = sym told_none ∙ is in let no : ◌≡◌ {A = ℕ} 0 1 = cc in omega arith
+        hands_none now (Ok n) (is, _) = let e = sym told_none ∙ is in (cc)
+        hands_none now (Err RowLength) (is, _) = let e = sym told_none ∙ is in (cc)
         hands_none now (Err NotFound) (is, same) = same
-        hands_none now (Err (TooLong n)) (is, _) = let e = sym told_none ∙ is in absurd (let no : ◌≡◌ {A = ℕ} 0 1 = cc in omega arith)
+        hands_none now (Err (TooLong n)) (is, _) = let e = sym told_none ∙ is in (cc)
 
     -- what follows from an answer, with the kept rows and with others
     module _ (Q : List ℕ → Result ℕ Unwritten → Type 0) (so : (now : List ℕ) (r : Result ℕ Unwritten) → GivesWord b was now r → Q now r) where
@@ -146,4 +146,4 @@ module _ {S : Type 0} where
           let all = ap (λ c. c.at.turns) is.turned in
           let count = is.count in
           (is.turned, omega arith)
-      advances b own n after (Err e) (is, _) = let never = sym (cond-true _ _ _ own) ∙ is in absurd (let no : ◌≡◌ {A = ℕ} 0 1 = cc in omega arith)
+      advances b own n after (Err e) (is, _) = let never = sym (cond-true _ _ _ own) ∙ is in (cc)

@@ -1,12 +1,14 @@
 -- What entering items does to a board.
-use Rattle.std.proofs.Common.{◌≡◌, ℕ, zero, suc, ◌+◌, ◌-◌, ◌<◌, ◌≤◌, Bool, true, false, cond, ltb, List, [], ◌∷◌, ◌++◌, length, get_or, take, set, sym, refl, ap, ◌∙◌, subst, add-zero, suc-add, zero-add, arith}
-use Rattle.std.proofs.lemmas.List.{append_assoc, append-nil, get_or_default, take_more}
-use Rattle.std.proofs.lemmas.Bool.{cond-false, cond-true, le-ltb, lt-ltb, or_from, or_left, or_parts, or_right}
+use Rattle.std.proofs.Common.{◌≡◌, ℕ, zero, suc, ◌+◌, ◌-◌, ◌<◌, ◌≤◌, Bool, true, false, cond, ◌||◌, ap₂, ltb, List, [], ◌∷◌, ◌++◌, length, get_or, take, set, sym, refl, ap, ◌∙◌, subst, add-zero, suc-add, zero-add, arith}
+use Rattle.std.specs.List.{list_any}
+use Rattle.std.proofs.lemmas.List.{append_assoc, append-nil, get_or_default}
+use Rattle.std.proofs.lemmas.Bool.{cond-false, cond-true, le-ltb, lt-ltb}
 use Rattle.nested.specs.Automata.{Automaton}
 use Rattle.items.specs.Makings.{first_item}
 use Rattle.items.specs.declared.item.Item.{Item}
 use Rattle.search.specs.Boards.{Fitting}
-use Rattle.search.specs.Model.{Board, Candidate, each, enter, enter_all, is_final, listed, moved_to, places, same_item}
+use Rattle.search.specs.Model.{Board, each, enter, enter_all, is_final, listed, moved_to, places, same_item}
+use Rattle.search.specs.declared.worklist.Candidate.{Candidate}
 use Rattle.search.specs.declared.verdict.Verdict.{Verdict}
 use Rattle.search.specs.declared.verdict.Verdict.TheVariants as verdict
 use Rattle.search.proofs.Entering.{Grows, enter_all_append, enter_all_final, enter_all_grows, enter_grows, filled, placed}
@@ -39,6 +41,9 @@ pub record Later {S : Type 0} (b b' : Board S) : Type 0 where
   pub below : (k : ℕ) (d : Item S) → k < b.at.entered → get_or b'.items k d ≡ get_or b.items k d
 
 module _ {S : Type 0} where
+  pub later_not : (b : Board S) → Fitting b → Later b b
+  later_not b fit = record { fitting = fit; turns = refl; grown = omega arith; below = λ k d lt. refl }
+
   pub later_more : (a b c : Board S) → Later a b → Later b c → Later a c
   later_more a b c first second = record {
     fitting = second.fitting;
@@ -73,28 +78,11 @@ put_with v b c = record {
 }
 
 module _ {S : Type 0} (A : Automaton S) (eq : S → S → Bool) where
-  -- whether an item is listed: none, one item more, and at its place
-  pub listed_none : (x : Item S) → listed A eq [] x ≡ false
+  -- the items of a list, tested one by one
+  pub listed_any : (xs : List (Item S)) (x : Item S) (same : Item S → Bool) → ((y : Item S) → same y ≡ same_item A eq y x) → listed A eq xs x ≡ list_any same xs
   unfolding listed
-  listed_none x = refl
-
-  listed_push : (xs : List (Item S)) (y x : Item S) → listed A eq xs x ≡ false → same_item A eq y x ≡ false → listed A eq (xs ++ y ∷ []) x ≡ false
-  unfolding listed
-  listed_push [] y x none other = or_from (same_item A eq y x) false other refl
-  listed_push (z ∷ xs) y x none other =
-      let (first, rest) = or_parts (same_item A eq z x) (listed A eq xs x) none in
-      or_from (same_item A eq z x) (listed A eq (xs ++ y ∷ []) x) first (listed_push xs y x rest other)
-
-  pub listed_more : (xs : List (Item S)) (i : ℕ) (y x : Item S) → i < length xs → y ≡ get_or xs i y → listed A eq (take i xs) x ≡ false → same_item A eq y x ≡ false → listed A eq (take (i + 1) xs) x ≡ false
-  listed_more xs i y x lt is none other =
-      ap (λ ys. listed A eq ys x) (take_more xs i y lt ∙ ap (λ z. take i xs ++ z ∷ []) (sym is)) ∙ listed_push (take i xs) y x none other
-
-  pub listed_at : (xs : List (Item S)) (i n : ℕ) (y x : Item S) → i < n → n ≤ length xs → y ≡ get_or xs i y → same_item A eq y x ≡ true → listed A eq (take n xs) x ≡ true
-  unfolding listed
-  listed_at [] i n y x lt le is same = absurd (omega arith)
-  listed_at (z ∷ xs) i zero y x lt le is same = absurd (omega arith)
-  listed_at (z ∷ xs) zero (suc n) y x lt le is same = or_left (same_item A eq z x) (listed A eq (take n xs) x) (ap (λ w. same_item A eq w x) (sym is) ∙ same)
-  listed_at (z ∷ xs) (suc i) (suc n) y x lt le is same = or_right (same_item A eq z x) (listed A eq (take n xs) x) (listed_at xs i n y x (omega arith) (omega arith) is same)
+  listed_any [] x same is = refl
+  listed_any (y ∷ ys) x same is = ap₂ ◌||◌ (sym (is y)) (listed_any ys x same is)
 
   -- entering one item, by cases
   module _ (b : Board S) (c : Candidate S) where
@@ -141,9 +129,6 @@ module _ {S : Type 0} (A : Automaton S) (eq : S → S → Bool) where
     gone_none = refl
 
     module _ (i : ℕ) (so_far : b ≡ enter_all A eq start (each 0 i f)) where
-      pub gone_later : Fitting start → Later start b
-      gone_later fit = after_all start b (each 0 i f) fit so_far
-
       pub gone_more : (b' : Board S) (cs : List (Candidate S)) → b' ≡ enter_all A eq b cs → cs ≡ f i → b' ≡ enter_all A eq start (each 0 (i + 1) f)
       gone_more b' cs after are =
           after ∙ ap (enter_all A eq b) are ∙ ap (λ d. enter_all A eq d (f i)) so_far ∙ sym (enter_all_append A eq start (each 0 i f) (f i)) ∙ ap (enter_all A eq start) (sym (each_more f i))

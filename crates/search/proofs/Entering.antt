@@ -1,18 +1,19 @@
 -- Entering candidates: what it leaves as it was.
 use Rattle.std.proofs.Common.{◌≡◌, ◌+◌, ◌<◌, ◌≤◌, Bool, true, false, cond, ltb, List, [], ◌∷◌, ◌++◌, length, take, set, sym, refl, ap, ◌∙◌, subst, arith}
 use Rattle.std.proofs.lemmas.List.{get_or-set_other, length-set}
-use Rattle.std.proofs.lemmas.Bool.{both_ways, cond_both, cond-true, ltb-false, ltb-true}
+use Rattle.std.proofs.lemmas.Bool.{cond_both, cond-true, ltb-false, ltb-true}
 use Rattle.nested.specs.Automata.{Automaton}
 use Rattle.items.specs.Makings.{first_item}
-use Rattle.search.specs.Model.{Board, Candidate, enter, enter_all, is_final, listed, moved_to, places}
+use Rattle.search.specs.Model.{Board, enter, enter_all, is_final, listed, moved_to, places}
+use Rattle.search.specs.declared.worklist.Candidate.{Candidate}
 use Rattle.search.specs.declared.verdict.Verdict.{Verdict}
 use Rattle.search.specs.declared.verdict.Verdict.TheVariants as verdict
 use Rattle.search.proofs.Making.{SameItems}
 
 pub running_from : (v : Verdict) → is_final v ≡ false → v ≡ verdict.Running
-running_from verdict.None e = absurd (both_ways true e refl)
-running_from verdict.Found e = absurd (both_ways true e refl)
-running_from verdict.Full e = absurd (both_ways true e refl)
+running_from verdict.None e = (cc)
+running_from verdict.Found e = (cc)
+running_from verdict.Full e = (cc)
 running_from verdict.Running e = refl
 
 -- not found, and not full

@@ -10,7 +10,8 @@ use Rattle.items.specs.declared.item.Item.{Item}
 use Rattle.items.specs.declared.making.How.{How}
 use Rattle.items.specs.declared.making.How.TheVariants.{Begun, Stepped, Entered, Matched}
 use Rattle.items.specs.declared.making.Making.{Making}
-use Rattle.search.specs.Model.{Board, Candidate, candidates, cleared, enter_all, is_final, opened, places, turn, turn_counted, turns_done, unopened}
+use Rattle.search.specs.Model.{Board, candidates, cleared, enter_all, is_final, opened, places, turn, turn_counted, turns_done, unopened}
+use Rattle.search.specs.declared.worklist.Candidate.{Candidate}
 use Rattle.search.specs.Reached.{AsLeft, Lawful, MoreDerivable, Reached}
 use Rattle.search.specs.declared.verdict.Verdict.{Verdict}
 use Rattle.search.specs.declared.verdict.Verdict.TheVariants as verdict
@@ -63,10 +64,10 @@ module _ {S : Type 0} (A : Automaton S) where
   new_kept : Kept A (record { at = unopened; items = []; makings = [] }) 0
   new_kept = record {
     sound = none_sound (record { at = unopened; items = []; makings = [] }) refl refl refl
-        (λ e. let no : ◌≡◌ {A = ℕ} 0 1 = cc in omega arith)
+        (λ e. (cc))
         (λ e. record { some = first_item A [] ∷ []; derivable = (Derivable.begun, tt); distinct = λ j k d less lt. absurd (omega arith); more = omega arith });
     closed = λ going. absurd going;
-    behind = λ e. absurd (let no : ◌≡◌ {A = ℕ} 0 1 = cc in omega arith);
+    behind = λ e. (cc);
     ended = λ e. refl;
     counted = λ e. refl;
   }
@@ -140,13 +141,13 @@ module _ {S : Type 0} (A : Automaton S) where
         let c : Candidate S = record { new = first_item A items; made = begun_making } in
         let grows = enter_grows A eq b c in
         let o = opened A eq items makings in
-        let before : Sound A b = none_sound b refl refl refl (λ e. let no : ◌≡◌ {A = ℕ} 0 1 = cc in omega arith) (λ e. absurd (let no : ◌≡◌ {A = ℕ} 0 1 = cc in omega arith)) in
+        let before : Sound A b = none_sound b refl refl refl (λ e. (cc)) (λ e. (cc)) in
         let (sound, present) = enter_does A eq law b c before refl in
         record {
           sound = sound;
           closed = λ going how x made. subst (Present A o) (sym (made_of_none o.items o.at.turns how x grows.turns made)) (present (grows.still going));
           behind = λ e. let (k, lt, _) = present e in let none = grows.turns in omega arith;
-          ended = λ e. let is = grows.still (subst Going (sym e) tt) in absurd (let no : ◌≡◌ {A = ℕ} 0 1 = cc in omega arith);
+          ended = λ e. let is = grows.still (subst Going (sym e) tt) in (cc);
           counted = λ e. grows.turns;
         }
 

@@ -1,5 +1,6 @@
 pub mod Boards
 pub mod Candidates
+pub mod Worklists
 pub mod Loops
 pub mod Opening
 pub mod Rows
@@ -15,4 +16,3 @@ pub mod Going
 pub mod Promising
 pub mod Answering
 pub mod Performing
-pub mod Lending

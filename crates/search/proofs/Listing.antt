@@ -12,8 +12,8 @@ use Rattle.search.specs.Reached.{Lawful}
 
 level_only : (l m : Level) → same_level l m ≡ true → l ≡ m
 level_only Base Base e = refl
-level_only Base Inner e = absurd (both_ways true (sym e) refl)
-level_only Inner Base e = absurd (both_ways true (sym e) refl)
+level_only Base Inner e = (cc)
+level_only Inner Base e = (cc)
 level_only Inner Inner e = refl
 
 level_itself : (l : Level) → same_level l l ≡ true
@@ -33,7 +33,7 @@ module _ {S : Type 0} (A : Automaton S) (eq : S → S → Bool) (law : Lawful eq
 
   listed_from : (xs : List (Item S)) (x d : Item S) → listed A eq xs x ≡ true → (k : ℕ) × (k < length xs) × (get_or xs k d ≡ x)
   unfolding listed
-  listed_from [] x d e = absurd (both_ways true (sym e) refl)
+  listed_from [] x d e = (cc)
   listed_from (y ∷ ys) x d e = ⊎_elim
       (λ here. (0, omega arith, item_only y x here))
       (λ there. let (k, lt, is) = listed_from ys x d there in (suc k, omega arith, is))

@@ -10,7 +10,8 @@ use Rattle.items.specs.declared.item.Level.TheVariants.{Base}
 use Rattle.items.specs.declared.making.How.TheVariants.{Begun}
 use Rattle.items.specs.declared.making.Making.{Making}
 use Rattle.search.specs.Boards.{Fitting, can_go_on}
-use Rattle.search.specs.Model.{Board, Candidate, candidate, cleared, enter, is_final, listed, opened, places}
+use Rattle.search.specs.Model.{Board, candidate, cleared, enter, is_final, listed, opened, places}
+use Rattle.search.specs.declared.worklist.Candidate.{Candidate}
 use Rattle.search.specs.declared.verdict.Verdict.TheVariants as verdict
 use Rattle.search.proofs.Boards.{enter_later}
 use Rattle.search.proofs.Entering.{filled, placed}

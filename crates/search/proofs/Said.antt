@@ -1,5 +1,5 @@
 -- What the verdicts say.
-use Rattle.std.proofs.Common.{◌≡◌, ℕ, zero, suc, ◌-◌, ◌<◌, ◌≤◌, Bool, List, [], ◌∷◌, ◌++◌, length, get_or, take, sym, refl, ap, ◌∙◌, subst, ap₂, arith}
+use Rattle.std.proofs.Common.{◌≡◌, ℕ, zero, suc, ◌-◌, ◌<◌, ◌≤◌, Bool, List, [], ◌∷◌, ◌++◌, length, get_or, take, sym, refl, ap, ◌∙◌, subst, ap₂, mod-eq_of_lt, arith}
 use Rattle.nested.specs.Automata.{Automaton}
 use Rattle.nested.specs.Reading.{Satisfies, read}
 use Rattle.nested.specs.declared.letter.Letter.{Letter}
@@ -17,12 +17,11 @@ use Rattle.items.proofs.Leading.{word_leads}
 use Rattle.search.specs.Model.{Board, places}
 use Rattle.search.specs.Reached.{Lawful, MoreDerivable, Reached}
 use Rattle.search.specs.declared.verdict.Verdict.TheVariants as verdict
-use Rattle.search.proofs.Entering.{Going, Grows}
+use Rattle.search.proofs.Entering.{Going}
 use Rattle.search.proofs.Kept.{Kept, reached_kept}
 use Rattle.search.proofs.Making.{call_item, internal_item, more_of, pending_item, return_item}
 use Rattle.search.proofs.Rows.{same_front}
 use Rattle.search.proofs.Sound.{Present, accepting}
-use Rattle.search.proofs.Trying.{name_kept}
 
 -- what the code of a call may rely on
 pub record Ready {S : Type 0} (b : Board S) : Type 0 where
@@ -32,33 +31,20 @@ pub record Ready {S : Type 0} (b : Board S) : Type 0 where
   pub behind : b.at.verdict ≡ verdict.Running → b.at.turns < b.at.entered
 
 module _ {S : Type 0} (A : Automaton S) where
-  -- while candidates are entered
-  pub ready_grows : (b c : Board S) → Grows A b c → Ready b → Ready c
-  ready_grows b c g ready = record {
-    fits = g.fits ready.fits;
-    item_length = g.item_length ∙ ready.item_length ∙ sym g.item_row;
-    making_length = g.making_length ∙ ready.making_length ∙ sym g.making_row;
-    behind = λ running.
-        let lt = ready.behind (sym (g.still (subst Going (sym running) tt)) ∙ running) in
-        let same = g.turns in
-        let more = g.entered in
-        omega arith;
-  }
-
   -- Where every item that follows from the entered ones is entered, every derivable one is.
   module _ (b : Board S) (closed : (how : How) (x : Item S) → MadeBy A b.items b.at.entered how x → Present A b x) where
     all_present : (l : Level) (p q : S) → Derivable A l p q → Present A b (item l p q)
     all_present = derivable_within A (λ l p q. Present A b (item l p q))
         (closed Begun _ refl)
-        (λ l p q a lt (k, less, is). closed (Stepped k (letter.Internal a)) _ (less, ap₂ (internal_item A) (sym is) (name_kept a lt)))
-        (λ p q c lt (k, less, is). closed (Stepped k (letter.Return c)) _ (less, ap (λ x. x.level) is, ap₂ (pending_item A) (sym is) (name_kept c lt)))
-        (λ l p q a lt (k, less, is). closed (Entered k a) _ (less, ap₂ (call_item A) (sym is) (name_kept a lt)))
+        (λ l p q a lt (k, less, is). closed (Stepped k (letter.Internal a)) _ (less, ap₂ (internal_item A) (sym is) (sym (mod-eq_of_lt lt))))
+        (λ p q c lt (k, less, is). closed (Stepped k (letter.Return c)) _ (less, ap (λ x. x.level) is, ap₂ (pending_item A) (sym is) (sym (mod-eq_of_lt lt))))
+        (λ l p q a lt (k, less, is). closed (Entered k a) _ (less, ap₂ (call_item A) (sym is) (sym (mod-eq_of_lt lt))))
         (λ l p q s a c lt under (j, first, outer) (k, second, inner). closed (Matched j k a c) _ (
           first,
           second,
           ap (λ x. x.level) inner,
-          ap (λ x. x.entry) inner ∙ ap₂ (λ x. A.call x.present) (sym outer) (name_kept a lt),
-          λ i. return_item A (sym outer i) (sym inner i) (name_kept a lt i) (name_kept c under i),
+          ap (λ x. x.entry) inner ∙ ap₂ (λ x. A.call x.present) (sym outer) (sym (mod-eq_of_lt lt)),
+          λ i. return_item A (sym outer i) (sym inner i) (sym (mod-eq_of_lt lt) i) (sym (mod-eq_of_lt under) i),
         ))
 
   module _ (eq : S → S → Bool) (law : Lawful eq) (b : Board S) (r : ℕ) (reached : Reached A eq b r) where
@@ -75,7 +61,7 @@ module _ {S : Type 0} (A : Automaton S) where
         let (l, p, derivable) = reachable_derivable A w in
         let (k, lt, is) = all_present b closed l p (read A w).state derivable in
         let found = kept.sound.refuses k lt (ap (accepting A) is ∙ satisfies) in
-        let no : ◌≡◌ {A = ℕ} 0 1 = cc in omega arith
+        (cc)
 
     pub said_found : b.at.verdict ≡ verdict.Found → (0 < b.at.entered) × Satisfies A (word_of b.makings (b.at.entered - 1))
     said_found found =

@@ -8,7 +8,8 @@ use Rattle.nested.specs.Automata.{Automaton}
 use Rattle.items.specs.Makings.{MadeBy, RightMakings, at, first_item}
 use Rattle.items.specs.Words.{begun_making}
 use Rattle.items.specs.declared.item.Item.{Item}
-use Rattle.search.specs.Model.{Board, Candidate, enter, enter_all, places}
+use Rattle.search.specs.Model.{Board, enter, enter_all, places}
+use Rattle.search.specs.declared.worklist.Candidate.{Candidate}
 use Rattle.search.specs.Reached.{Lawful, MoreDerivable}
 use Rattle.search.specs.declared.verdict.Verdict.TheVariants as verdict
 use Rattle.search.proofs.Entering.{Going, Grows, enter_all_grows, enter_grows, enter_ways, filled, grows_placed, placed}
@@ -34,11 +35,11 @@ pub record Sound {S : Type 0} (A : Automaton S) (b : Board S) : Type 0 where
 
 found_accepts : (t : Bool) → cond t verdict.Found verdict.Running ≡ verdict.Found → t ≡ true
 found_accepts true e = refl
-found_accepts false e = absurd (let no : ◌≡◌ {A = ℕ} 0 1 = cc in omega arith)
+found_accepts false e = (cc)
 
 never_full : (t : Bool) → cond t verdict.Found verdict.Running ≡ verdict.Full → ⊥
-never_full true e = let no : ◌≡◌ {A = ℕ} 0 1 = cc in omega arith
-never_full false e = let no : ◌≡◌ {A = ℕ} 0 1 = cc in omega arith
+never_full true e = (cc)
+never_full false e = (cc)
 
 module _ {S : Type 0} (A : Automaton S) where
   -- x is among the items entered
@@ -69,7 +70,7 @@ module _ {S : Type 0} (A : Automaton S) where
     first = first_item A b.items
 
     unfound : (k : ℕ) → k < n → accepting A (at A b.items k) ≡ true → ⊥
-    unfound k lt good = let found = sound.refuses k lt good in let no : ◌≡◌ {A = ℕ} 0 1 = cc in omega arith
+    unfound k lt good = let found = sound.refuses k lt good in (cc)
 
     placed_does : n < places b.at → Does c (placed A b c)
     placed_does lt =
@@ -108,13 +109,13 @@ module _ {S : Type 0} (A : Automaton S) where
             right = sound.right;
             distinct = sound.distinct;
             refuses = λ k below good. absurd (unfound k below good);
-            found = λ e. absurd (let no : ◌≡◌ {A = ℕ} 0 1 = cc in omega arith);
+            found = λ e. (cc);
             full = λ e. more_of A items _ (n + 1) (places b.at) (omega arith)
                 (right_more A b.items items b.makings _ n sound.right c.new c.made more making follows)
                 (distinct_more first b.items items n c.new more other sound.distinct)
                 (omega arith);
           },
-          λ e. absurd (let no : ◌≡◌ {A = ℕ} 0 1 = cc in omega arith),
+          λ e. (cc),
         )
 
   module _ (eq : S → S → Bool) (law : Lawful eq) where
@@ -123,7 +124,7 @@ module _ {S : Type 0} (A : Automaton S) where
         let within : b.at.entered ≤ length b.items = omega arith in
         let d = first_item A b.items in
         enter_ways A eq b c (Does c)
-        (λ final. (sound, λ e. absurd (let no : ◌≡◌ {A = ℕ} 0 1 = cc in omega arith)))
+        (λ final. (sound, λ e. (cc)))
         (λ running t. (sound, λ e. listed_is A eq law b.items b.at.entered c.new d within t))
         (λ running t lt. placed_does b c sound follows running (unlisted_is A eq law b.items b.at.entered c.new d within t) lt)
         (λ running t le. filled_does b c sound follows running (unlisted_is A eq law b.items b.at.entered c.new d within t) le)

@@ -2,7 +2,7 @@
 use Rattle.std.proofs.Common.{◌≡◌, ℕ, zero, suc, ◌+◌, ◌%◌, ◌<◌, ◌≤◌, Bool, true, false, cond, List, [], ◌∷◌, ◌++◌, sym, refl, ap, ◌∙◌, subst, ap₂, ⊎_elim, mod-eq_of_lt, arith}
 use Rattle.std.specs.List.{AllByRecursion}
 use Rattle.std.proofs.ByRecursion.{All-append}
-use Rattle.std.proofs.lemmas.Bool.{both_ways, cases_eq, cond_both}
+use Rattle.std.proofs.lemmas.Bool.{cases_eq, cond_both}
 use Rattle.nested.specs.Automata.{Automaton}
 use Rattle.nested.specs.declared.letter.Letter.TheVariants as letter
 use Rattle.items.specs.Makings.{MadeBy, at}
@@ -12,7 +12,8 @@ use Rattle.items.specs.declared.item.Level.TheVariants.{Base, Inner}
 use Rattle.items.specs.declared.making.How.{How}
 use Rattle.items.specs.declared.making.How.TheVariants.{Begun, Stepped, Entered, Matched}
 use Rattle.items.proofs.Deriving.{name_below}
-use Rattle.search.specs.Model.{Candidate, by_call, by_internal, by_match, by_pending, by_return, candidate, candidates, each, is_base}
+use Rattle.search.specs.Model.{by_call, by_internal, by_match, by_pending, by_return, candidate, candidates, each, is_base}
+use Rattle.search.specs.declared.worklist.Candidate.{Candidate}
 use Rattle.search.specs.Reached.{Lawful}
 use Rattle.search.proofs.Making.{call_item, internal_item, pending_item, return_item}
 
@@ -37,14 +38,11 @@ module _ {X : Type 0} (P : X → Type 0) where
 
 base_from : (l : Level) → is_base l ≡ true → l ≡ Base
 base_from Base e = refl
-base_from Inner e = absurd (both_ways false refl e)
+base_from Inner e = (cc)
 
 inner_from : (l : Level) → is_base l ≡ false → l ≡ Inner
-inner_from Base e = absurd (both_ways true e refl)
+inner_from Base e = (cc)
 inner_from Inner e = refl
-
-pub name_kept : (a : ℕ) → a < 16 → a ≡ a % 16
-name_kept a lt = sym (mod-eq_of_lt lt)
 
 module _ {S : Type 0} (A : Automaton S) (eq : S → S → Bool) (law : Lawful eq) (items : List (Item S)) where
   abbrev in_row : ℕ → Item S
@@ -87,8 +85,8 @@ module _ {S : Type 0} (A : Automaton S) (eq : S → S → Bool) (law : Lawful eq
             first,
             second,
             inner_from (in_row j).level inner,
-            sym (law.only _ _ same) ∙ ap (A.call (in_row i).present) (name_kept a lt),
-            ap₂ (return_item A (in_row i) (in_row j)) (name_kept a lt) (name_kept b less),
+            sym (law.only _ _ same) ∙ ap (A.call (in_row i).present) (sym (mod-eq_of_lt lt)),
+            ap₂ (return_item A (in_row i) (in_row j)) (sym (mod-eq_of_lt lt)) (sym (mod-eq_of_lt less)),
           ),
           tt,
         )))
@@ -96,12 +94,12 @@ module _ {S : Type 0} (A : Automaton S) (eq : S → S → Bool) (law : Lawful eq
 
     pub candidates_follow : (i : ℕ) → i < n → AllByRecursion From (candidates A eq items i)
     candidates_follow i lt =
-        All-append From (by_internal A eq items i) _ (each_from From 0 16 (internals i) (λ a less. ((lt, ap (internal_item A (in_row i)) (name_kept a less)), tt)))
+        All-append From (by_internal A eq items i) _ (each_from From 0 16 (internals i) (λ a less. ((lt, ap (internal_item A (in_row i)) (sym (mod-eq_of_lt less))), tt)))
         (All-append From (by_pending A eq items i) _
         (cond_both (is_base (in_row i).level) _ _ (AllByRecursion From)
-        (λ base. each_from From 0 16 (pendings i) (λ b less. ((lt, base_from (in_row i).level base, ap (pending_item A (in_row i)) (name_kept b less)), tt)))
+        (λ base. each_from From 0 16 (pendings i) (λ b less. ((lt, base_from (in_row i).level base, ap (pending_item A (in_row i)) (sym (mod-eq_of_lt less))), tt)))
         (λ _. tt))
-        (All-append From (by_call A eq items i) _ (each_from From 0 16 (calls i) (λ a less. ((lt, ap (call_item A (in_row i)) (name_kept a less)), tt)))
+        (All-append From (by_call A eq items i) _ (each_from From 0 16 (calls i) (λ a less. ((lt, ap (call_item A (in_row i)) (sym (mod-eq_of_lt less))), tt)))
         (All-append From (second_matches i) _
         (each_from From 0 i (λ j. matches j i) (λ j less. matches_follow j i (omega arith) lt))
         (each_from From 0 (suc i) (matches i) (λ j less. matches_follow i j lt (omega arith))))))

@@ -1,6 +1,6 @@
 -- One turn after another, and the verdict behind a turn.
-use Rattle.std.proofs.Common.{◌≡◌, ℕ, zero, suc, ◌+◌, Bool, true, false, cond, eqb, sym, refl, ap, ◌∙◌, subst, ⊎_elim, add-one, arith}
-use Rattle.std.proofs.lemmas.Bool.{both_ways, cases_Bool, cond_both, cond-false, cond-true, eqb-false, eqb-true}
+use Rattle.std.proofs.Common.{◌≡◌, ℕ, zero, suc, ◌+◌, Bool, true, false, cond, eqb, sym, refl, ap, ◌∙◌, subst}
+use Rattle.std.proofs.lemmas.Bool.{both_ways, cond_both, cond-false, cond-true, eqb-false, eqb-true}
 use Rattle.nested.specs.Automata.{Automaton}
 use Rattle.search.specs.Model.{Board, is_final, turn, turns_done}
 use Rattle.search.specs.declared.verdict.Verdict.{Verdict}
@@ -13,29 +13,9 @@ module _ {S : Type 0} (A : Automaton S) (eq : S → S → Bool) where
   final_stays zero b final = refl
   final_stays (suc n) b final = cond-true (is_final b.at.verdict) b (turns_done A eq n (turn A eq b)) final
 
-  turns_done_first : (n : ℕ) (b : Board S) → is_final b.at.verdict ≡ false → turns_done A eq (suc n) b ≡ turns_done A eq n (turn A eq b)
+  pub turns_done_first : (n : ℕ) (b : Board S) → is_final b.at.verdict ≡ false → turns_done A eq (suc n) b ≡ turns_done A eq n (turn A eq b)
   unfolding turns_done
   turns_done_first n b running = cond-false (is_final b.at.verdict) b (turns_done A eq n (turn A eq b)) running
-
-  turns_done_last : (n : ℕ) (b : Board S) → turns_done A eq (suc n) b ≡ turns_done A eq 1 (turns_done A eq n b)
-  unfolding turns_done
-  turns_done_last zero b = refl
-  turns_done_last (suc n) b = ⊎_elim
-      (λ final. final_stays (suc (suc n)) b final ∙ sym (final_stays 1 b final) ∙ ap (turns_done A eq 1) (sym (final_stays (suc n) b final)))
-      (λ running. turns_done_first (suc n) b running ∙ turns_done_last n (turn A eq b) ∙ ap (turns_done A eq 1) (sym (turns_done_first n b running)))
-      (cases_Bool (is_final b.at.verdict))
-
-  -- where n turns lead to c: nothing more if it is final, else one turn more
-  module _ (n : ℕ) (b c : Board S) (so_far : turns_done A eq n b ≡ c) where
-    one_more : turns_done A eq (n + 1) b ≡ turns_done A eq 1 c
-    one_more = ap (λ m. turns_done A eq m b) (add-one n) ∙ turns_done_last n b ∙ ap (turns_done A eq 1) so_far
-
-    pub turns_done_end : is_final c.at.verdict ≡ true → turns_done A eq (n + 1) b ≡ c
-    turns_done_end final = one_more ∙ final_stays 1 c final
-
-    pub turns_done_more : is_final c.at.verdict ≡ false → turns_done A eq (n + 1) b ≡ turn A eq c
-    unfolding turns_done
-    turns_done_more running = one_more ∙ turns_done_first 0 c running
 
 -- The verdict behind a turn, from the verdict before it is counted.
 abbrev pub after : Verdict → ℕ → ℕ → Verdict
@@ -57,11 +37,11 @@ module _ (v : Verdict) (turns entered : ℕ) where
 
   pub after_running : after v turns entered ≡ verdict.Running → (v ≡ verdict.Running) × (turns + 1 ≡ entered → ⊥)
   after_running = after_ways (λ w. w ≡ verdict.Running → (v ≡ verdict.Running) × (turns + 1 ≡ entered → ⊥))
-      (λ final e. absurd (both_ways true (sym final ∙ ap is_final e) refl)) (λ r _ e. absurd (let no : ◌≡◌ {A = ℕ} 0 1 = cc in omega arith)) (λ r not e. (r, not))
+      (λ final e. absurd (both_ways true (sym final ∙ ap is_final e) refl)) (λ r _ e. (cc)) (λ r not e. (r, not))
 
   pub after_none : after v turns entered ≡ verdict.None → (v ≡ verdict.Running) → turns + 1 ≡ entered
   after_none = after_ways (λ w. w ≡ verdict.None → (v ≡ verdict.Running) → turns + 1 ≡ entered)
-      (λ _ e r. absurd (let no : ◌≡◌ {A = ℕ} 0 1 = cc in omega arith)) (λ r is e _. is) (λ r _ e _. absurd (let no : ◌≡◌ {A = ℕ} 0 1 = cc in omega arith))
+      (λ _ e r. (cc)) (λ r is e _. is) (λ r _ e _. (cc))
 
   pub after_going : Going (after v turns entered) → Going v
   after_going = after_ways (λ w. Going w → Going v) (λ _ g. g) (λ r _ g. subst Going (sym r) g) (λ r _ g. subst Going (sym r) g)

@@ -1,5 +1,6 @@
 pub mod Model
 pub mod Boards
+pub mod Worklists
 pub mod Calls
 pub mod Reached
 pub mod Promise

@@ -14,6 +14,7 @@ use Rattle.items.specs.declared.making.Making.{Making}
 use Rattle.search.specs.declared.progress.Progress.{Progress}
 use Rattle.search.specs.declared.verdict.Verdict.{Verdict}
 use Rattle.search.specs.declared.verdict.Verdict.TheVariants as verdict
+use Rattle.search.specs.declared.worklist.Candidate.{Candidate}
 
 -- every verdict but running is final
 abbrev pub is_final : Verdict → Bool
@@ -38,11 +39,6 @@ unopened = record { verdict = verdict.Full; turns = 0; entered = 0; item_row = 0
 unfoldable pub each : {X : Type 0} → ℕ → ℕ → (ℕ → List X) → List X
 each from zero f = []
 each from (suc count) f = f from ++ each (suc from) count f
-
--- an item that may be entered, and how it is made
-pub record Candidate (S : Type 0) : Type 0 where
-  pub new : Item S
-  pub made : Making
 
 abbrev pub candidate : {S : Type 0} → Item S → How → Candidate S
 candidate x how = record { new = x; made = record { how = how } }

@@ -11,13 +11,13 @@ use Rattle.search.specs.declared.call.Answer.TheVariants.{Said}
 use Rattle.search.specs.declared.call.Call.{Call}
 use Rattle.search.specs.declared.call.Call.TheVariants as call
 use Rattle.search.specs.declared.call.Rows.{Rows}
-use Rattle.search.specs.declared.progress.Progress.{Progress}
+use Rattle.search.specs.declared.perform.Kept.{Kept}
 use Rattle.search.specs.declared.unwritten.Unwritten.{Unwritten}
 
 module _ {S : Type 0} where
   -- a search, and the rows that are kept for it
-  abbrev pub kept_board : Progress → Rows S → Board S
-  kept_board p rows = board p (vec_items rows.items) (vec_items rows.makings)
+  abbrev pub kept_board : Kept S → Board S
+  kept_board k = board k.search.at (vec_items k.rows.items) (vec_items k.rows.makings)
 
   module _ (b : Board S) where
     -- other rows have the lengths at opening

@@ -5,12 +5,11 @@ ghost use Rattle.search.specs.Calls.{Advances, GivesWord, reported};
 ghost use Rattle.search.specs.Model.{opened, unopened};
 ghost use Rattle.search.specs.Promise.{AdvancesOn, HandsTruly, OpensOn, SaysTruly};
 
-use crate::enter::enter;
 use crate::progress::Progress;
 use crate::search::Search;
-use crate::turn::turns;
 use crate::unwritten::Unwritten;
 use crate::verdict::{Report, Verdict};
+use crate::worklist::{Candidate, Worklist};
 use items::item::{Item, Level};
 use items::making::{How, Making};
 use items::words::write_word;
@@ -43,24 +42,32 @@ impl<S> Search<S> {
         items: &mut [Item<S>],
         makings: &mut [Making],
     )
-        ensures board { board self.new.at items.new makings.new ≡ opened (M.Machine.meaning question.now) (M.Machine.equal question.now) items.old makings.old }
-        ensures carries { OpensOn (M.Machine.meaning question.now) (M.Machine.equal question.now) self.old.at (board self.new.at items.new makings.new) }
+        ensures board { board self.new.at items.new makings.new ≡ opened (M.meaning question.now) S.eq items.old makings.old }
+        ensures carries { OpensOn (M.meaning question.now) S.eq self.old.at (board self.new.at items.new makings.new) }
     {
-        let mut at = Progress {
+        let at = Progress {
             verdict: Verdict::Running,
             turns: 0,
             entered: 0,
             item_row: items.len(),
             making_row: makings.len(),
         };
-        let start = question.start();
-        let first = Item {
-            level: Level::Base,
-            entry: start,
-            present: start,
+        let mut worklist = Worklist {
+            question,
+            at,
+            items,
+            makings,
         };
-        enter(question, &mut at, items, makings, &first, How::Begun);
-        self.at = at;
+        let start = question.start();
+        worklist.enter(Candidate {
+            new: Item {
+                level: Level::Base,
+                entry: start,
+                present: start,
+            },
+            made: Making { how: How::Begun },
+        });
+        self.at = worklist.at;
     }
 
     /// Does turns until there were n or the verdict is final, and answers how many it did.
@@ -74,13 +81,21 @@ impl<S> Search<S> {
         makings: &mut [Making],
         n: usize,
     ) -> Result<usize, Refusal>
-        ensures board { Advances (board self.old.at items.old makings.old) (M.Machine.meaning question.now) (M.Machine.equal question.now) n (board self.new.at items.new makings.new) result }
-        ensures carries { AdvancesOn (M.Machine.meaning question.now) (M.Machine.equal question.now) (board self.old.at items.old makings.old) n (board self.new.at items.new makings.new) result }
+        ensures board { Advances (board self.old.at items.old makings.old) (M.meaning question.now) S.eq n (board self.new.at items.new makings.new) result }
+        ensures carries { AdvancesOn (M.meaning question.now) S.eq (board self.old.at items.old makings.old) n (board self.new.at items.new makings.new) result }
     {
         if !self.at.fits_rows(items.len(), makings.len()) {
             return Err(Refusal::RowLength);
         }
-        Ok(turns(question, &mut self.at, items, makings, n))
+        let mut worklist = Worklist {
+            question,
+            at: self.at,
+            items,
+            makings,
+        };
+        let done = worklist.turns(n);
+        self.at = worklist.at;
+        Ok(done)
     }
 
     /// The verdict, the turns done since opening, and the items entered.
@@ -112,12 +127,9 @@ impl<S> Search<S> {
         if !self.at.fits_rows(items.len(), makings.len()) {
             return Err(Unwritten::RowLength);
         }
-        if !self.at.verdict.is_found() {
+        if self.at.verdict != Verdict::Found {
             return Err(Unwritten::NotFound);
         }
-        match write_word(makings, self.at.entered.saturating_sub(1), out) {
-            Ok(n) => Ok(n),
-            Err(n) => Err(Unwritten::TooLong(n)),
-        }
+        Ok(write_word(makings, self.at.entered.saturating_sub(1), out)?)
     }
 }

@@ -1,66 +1,56 @@
 // Entering items.
-ghost use Rattle.std.specs.Prelude.{◌≡◌, ◌≤◌, length, take};
-ghost use Rattle.search.specs.Boards.{Fitting, board};
-ghost use Rattle.search.specs.Model.{candidate, enter, listed, same_item};
+ghost use Rattle.std.specs.Prelude.{◌≡◌, [], ◌∷◌, take};
+ghost use Rattle.search.specs.Model.{each, enter, listed};
+ghost use Rattle.search.specs.Worklists.{Computes, Enters, Leads, board_of};
 
-use crate::levels::same_level;
-use crate::progress::Progress;
 use crate::verdict::Verdict;
+use crate::worklist::{Candidate, Worklist};
 use items::item::Item;
-use items::making::{How, Making};
 use nested::machine::Machine;
 
-// Whether two items are one.
-fn same_item<M: Machine>(question: &M, left: &Item<M::State>, right: &Item<M::State>) -> bool
-    ensures { result ≡ same_item (M.Machine.meaning question.now) (M.Machine.equal question.now) left.now right.now }
-{
-    same_level(left.level, right.level)
-        && question.same(left.entry, right.entry)
-        && question.same(left.present, right.present)
-}
+impl<M: Machine> Worklist<'_, '_, '_, M> {
+    // Whether an item is one of those entered.
+    fn is_listed(&self, new: &Item<M::State>) -> bool
+        ensures { result ≡ listed (M.meaning self.now.question.now) M.State.eq (take self.now.at.entered self.now.items.now) new.now }
+    {
+        self.items[..self.at.entered].contains(new)
+    }
 
-// Whether the item is one of the first `entered` items of the row.
-fn is_listed<M: Machine>(
-    question: &M,
-    items: &[Item<M::State>],
-    entered: usize,
-    new: &Item<M::State>,
-) -> bool
-    requires { entered ≤ length items.now }
-    ensures { result ≡ listed (M.Machine.meaning question.now) (M.Machine.equal question.now) (take entered items.now) new.now }
-{
-    for number in 0..entered {
-        if same_item(question, &items[number], new) {
-            return true;
+    // Enters a candidate, unless the verdict is final or its item is there already.
+    pub(crate) fn enter(&mut self, candidate: Candidate<M::State>)
+        ensures { Leads self.old self.new (λ A eq b. enter A eq b candidate) }
+    {
+        if self.at.verdict.is_final() {
+            return;
+        }
+        if self.is_listed(&candidate.new) {
+            return;
+        }
+        let entered = self.at.entered;
+        if entered >= self.at.places() {
+            self.at.verdict = Verdict::Full;
+            return;
+        }
+        self.items[entered] = candidate.new;
+        self.makings[entered] = candidate.made;
+        self.at.entered = entered + 1;
+        self.at.verdict = if self.question.accepts(candidate.new.present) {
+            Verdict::Found
+        } else {
+            Verdict::Running
+        };
+    }
+
+    // Enters what is made of each name in turn, until the verdict is final.
+    pub(crate) fn enter_each<F: Fn(u8) -> Candidate<M::State>>(&mut self, make: F)
+        requires callable { F.IsAlwaysCallable make }
+        ensures { (made : _) → Computes 16 (F.post make) made → Enters self.old self.new (λ A eq items. each 0 16 (λ name. made name ∷ [])) }
+    {
+        for name in 0..16 {
+            if self.at.verdict.is_final() {
+                return;
+            }
+            self.enter(make(name));
         }
     }
-    false
-}
-
-// Enters an item, unless the verdict is final or the item is there already.
-pub(crate) fn enter<M: Machine>(
-    question: &M,
-    at: &mut Progress,
-    items: &mut [Item<M::State>],
-    makings: &mut [Making],
-    new: &Item<M::State>,
-    how: How,
-)
-    requires { Fitting (board at.old items.old makings.old) }
-    ensures { board at.new items.new makings.new ≡ enter (M.Machine.meaning question.now) (M.Machine.equal question.now) (board at.old items.old makings.old) (candidate new.now how) }
-{
-    if at.verdict.is_final() {
-        return;
-    }
-    if is_listed(question, items, at.entered, new) {
-        return;
-    }
-    if at.entered >= at.places() {
-        at.verdict = Verdict::Full;
-        return;
-    }
-    items[at.entered] = *new;
-    makings[at.entered] = Making { how };
-    at.entered += 1;
-    at.verdict = Verdict::after_entering(question.accepts(new.present));
 }

@@ -4,7 +4,6 @@
 mod call;
 mod calls;
 mod enter;
-mod levels;
 mod pairs;
 mod perform;
 pub mod progress;
@@ -13,3 +12,4 @@ mod search;
 mod turn;
 mod unwritten;
 pub mod verdict;
+mod worklist;

@@ -1,118 +1,78 @@
 // The rule by which a turn makes items of two items: a call, what the second item says of the inside, and a return. It stops once the
 // verdict is final.
-ghost use Rattle.std.specs.Prelude.{◌≡◌, suc, ◌<◌};
-ghost use Rattle.search.specs.Boards.{Fitting, board};
-ghost use Rattle.search.specs.Model.{by_match, by_return, each, enter_all};
+ghost use Rattle.std.specs.Prelude.{◌<◌};
+ghost use Rattle.search.specs.Boards.{Fitting};
+ghost use Rattle.search.specs.Model.{by_match, by_return, each};
+ghost use Rattle.search.specs.Worklists.{Computes, Enters, board_of};
 
-use crate::enter::enter;
-use crate::levels::is_base;
-use crate::progress::Progress;
-use items::item::Item;
+use crate::worklist::{Candidate, Worklist};
+use items::item::{Item, Level};
 use items::making::{How, Making};
 use nested::machine::Machine;
 
-// A call behind the first item that the second is inside of, and its return behind the second.
-fn by_return<M: Machine>(
-    question: &M,
-    at: &mut Progress,
-    items: &mut [Item<M::State>],
-    makings: &mut [Making],
-    first: usize,
-    second: usize,
-    opened: u8,
-)
-    requires rows { Fitting (board at.old items.old makings.old) }
-    requires first { first < at.old.entered }
-    requires second { second < at.old.entered }
-    requires name { opened < 16 }
-    ensures { board at.new items.new makings.new ≡ enter_all (M.Machine.meaning question.now) (M.Machine.equal question.now) (board at.old items.old makings.old) (by_return (M.Machine.meaning question.now) (M.Machine.equal question.now) items.old first second opened) }
-{
-    let before = items[first];
-    let inside = items[second];
-    if !question.same(question.call(before.present, opened), inside.entry) {
-        return;
-    }
-    for name in 0..16 {
-        if at.verdict.is_final() {
+impl<M: Machine> Worklist<'_, '_, '_, M> {
+    // A call behind the first item that the second is inside of, and its return behind the second.
+    fn by_return(&mut self, first: usize, second: usize, opened: u8)
+        requires first { first < self.old.at.entered }
+        requires second { second < self.old.at.entered }
+        requires name { opened < 16 }
+        ensures { Enters self.old self.new (λ A eq items. by_return A eq items first second opened) }
+    {
+        let question = self.question;
+        let before = self.items[first];
+        let inside = self.items[second];
+        let called = question.call(before.present, opened);
+        if called != inside.entry {
             return;
         }
-        let new = Item {
-            level: before.level,
-            entry: before.entry,
-            present: question.ret(inside.present, before.present, opened, name),
-        };
-        let how = How::Matched {
-            first,
-            second,
-            opened,
-            name,
-        };
-        enter(question, at, items, makings, &new, how);
+        self.enter_each(move |name| Candidate {
+            new: Item {
+                level: before.level,
+                entry: before.entry,
+                present: question.ret(inside.present, before.present, opened, name),
+            },
+            made: Making {
+                how: How::Matched {
+                    first,
+                    second,
+                    opened,
+                    name,
+                },
+            },
+        });
     }
-}
 
-// What a call and its return make of two items.
-fn by_match<M: Machine>(
-    question: &M,
-    at: &mut Progress,
-    items: &mut [Item<M::State>],
-    makings: &mut [Making],
-    first: usize,
-    second: usize,
-)
-    requires rows { Fitting (board at.old items.old makings.old) }
-    requires first { first < at.old.entered }
-    requires second { second < at.old.entered }
-    ensures { board at.new items.new makings.new ≡ enter_all (M.Machine.meaning question.now) (M.Machine.equal question.now) (board at.old items.old makings.old) (by_match (M.Machine.meaning question.now) (M.Machine.equal question.now) items.old first second) }
-{
-    let inside = items[second];
-    if is_base(inside.level) {
-        return;
-    }
-    for opened in 0..16 {
-        if at.verdict.is_final() {
+    // What a call and its return make of two items. Its loop and that of `match_each` stay apart from that of `enter_each`: a closure over
+    // the worklist itself, in place of one that makes a candidate or a pair, is no plainer, since its contract speaks of every state.
+    fn by_match(&mut self, first: usize, second: usize)
+        requires first { first < self.old.at.entered }
+        requires second { second < self.old.at.entered }
+        ensures { Enters self.old self.new (λ A eq items. by_match A eq items first second) }
+    {
+        let inside = self.items[second];
+        if inside.level == Level::Base {
             return;
         }
-        by_return(question, at, items, makings, first, second, opened);
+        for opened in 0..16 {
+            if self.at.verdict.is_final() {
+                return;
+            }
+            self.by_return(first, second, opened);
+        }
     }
-}
 
-// An item as the second, with each item before it as the first.
-pub(crate) fn as_second<M: Machine>(
-    question: &M,
-    at: &mut Progress,
-    items: &mut [Item<M::State>],
-    makings: &mut [Making],
-    number: usize,
-)
-    requires rows { Fitting (board at.old items.old makings.old) }
-    requires there { number < at.old.entered }
-    ensures { board at.new items.new makings.new ≡ enter_all (M.Machine.meaning question.now) (M.Machine.equal question.now) (board at.old items.old makings.old) (each 0 number (λ j. by_match (M.Machine.meaning question.now) (M.Machine.equal question.now) items.old j number)) }
-{
-    for other in 0..number {
-        if at.verdict.is_final() {
-            return;
+    // What calls and their returns make of each pair in turn.
+    pub(crate) fn match_each<F: Fn(usize) -> (usize, usize)>(&mut self, count: usize, pair: F)
+        requires callable { F.IsAlwaysCallable pair }
+        requires there { (k : _) (p : _) → k < count → F.post pair k p → (p.0 < self.old.at.entered) × (p.1 < self.old.at.entered) }
+        ensures { (pairs : _) → Computes count (F.post pair) pairs → Enters self.old self.new (λ A eq items. each 0 count (λ k. by_match A eq items (pairs k).0 (pairs k).1)) }
+    {
+        for k in 0..count {
+            if self.at.verdict.is_final() {
+                return;
+            }
+            let (first, second) = pair(k);
+            self.by_match(first, second);
         }
-        by_match(question, at, items, makings, other, number);
-    }
-}
-
-// An item as the first, with each item up to it as the second.
-pub(crate) fn as_first<M: Machine>(
-    question: &M,
-    at: &mut Progress,
-    items: &mut [Item<M::State>],
-    makings: &mut [Making],
-    number: usize,
-)
-    requires rows { Fitting (board at.old items.old makings.old) }
-    requires there { number < at.old.entered }
-    ensures { board at.new items.new makings.new ≡ enter_all (M.Machine.meaning question.now) (M.Machine.equal question.now) (board at.old items.old makings.old) (each 0 (suc number) (λ j. by_match (M.Machine.meaning question.now) (M.Machine.equal question.now) items.old number j)) }
-{
-    for other in 0..number + 1 {
-        if at.verdict.is_final() {
-            return;
-        }
-        by_match(question, at, items, makings, number, other);
     }
 }

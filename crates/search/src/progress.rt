@@ -5,7 +5,8 @@ ghost use Rattle.search.specs.Model.{after_turn, places};
 
 use crate::verdict::Verdict;
 
-/// How far a search has come: the verdict, the turns done since opening, the items entered, and the lengths of the rows at opening.
+/// How far a search has come: the verdict, the turns done since opening, the items entered, and the lengths of the rows at opening, which
+/// stay here because the caller lends the rows to each call anew.
 #[derive(Clone, Copy)]
 pub struct Progress {
     pub verdict: Verdict,

@@ -1,103 +1,82 @@
 // The rules by which a turn makes items of one item. Each stops once the verdict is final.
-ghost use Rattle.std.specs.Prelude.{◌≡◌, ◌<◌};
-ghost use Rattle.search.specs.Boards.{Fitting, board};
-ghost use Rattle.search.specs.Model.{by_call, by_internal, by_pending, enter_all};
+ghost use Rattle.std.specs.Prelude.{◌<◌};
+ghost use Rattle.search.specs.Boards.{Fitting};
+ghost use Rattle.search.specs.Model.{by_call, by_internal, by_pending};
+ghost use Rattle.search.specs.Worklists.{Enters, board_of};
 
-use crate::enter::enter;
-use crate::levels::is_base;
-use crate::progress::Progress;
+use crate::worklist::{Candidate, Worklist};
 use items::item::{Item, Level};
 use items::making::{How, Making};
 use nested::letter::Letter;
 use nested::machine::Machine;
 
-// An internal letter behind an item.
-pub(crate) fn by_internal<M: Machine>(
-    question: &M,
-    at: &mut Progress,
-    items: &mut [Item<M::State>],
-    makings: &mut [Making],
-    number: usize,
-)
-    requires rows { Fitting (board at.old items.old makings.old) }
-    requires there { number < at.old.entered }
-    ensures { board at.new items.new makings.new ≡ enter_all (M.Machine.meaning question.now) (M.Machine.equal question.now) (board at.old items.old makings.old) (by_internal (M.Machine.meaning question.now) (M.Machine.equal question.now) items.old number) }
-{
-    let from = items[number];
-    for name in 0..16 {
-        if at.verdict.is_final() {
-            return;
-        }
-        let new = Item {
-            level: from.level,
-            entry: from.entry,
-            present: question.internal(from.present, name),
-        };
-        let how = How::Stepped {
-            from: number,
-            letter: Letter::Internal(name),
-        };
-        enter(question, at, items, makings, &new, how);
+impl<M: Machine> Worklist<'_, '_, '_, M> {
+    // An internal letter behind an item.
+    pub(crate) fn by_internal(&mut self, number: usize)
+        requires there { number < self.old.at.entered }
+        ensures { Enters self.old self.new (λ A eq items. by_internal A eq items number) }
+    {
+        let question = self.question;
+        let from = self.items[number];
+        self.enter_each(|name| Candidate {
+            new: Item {
+                level: from.level,
+                entry: from.entry,
+                present: question.internal(from.present, name),
+            },
+            made: Making {
+                how: How::Stepped {
+                    from: number,
+                    letter: Letter::Internal(name),
+                },
+            },
+        });
     }
-}
 
-// A pending return behind an item of the base level.
-pub(crate) fn by_pending<M: Machine>(
-    question: &M,
-    at: &mut Progress,
-    items: &mut [Item<M::State>],
-    makings: &mut [Making],
-    number: usize,
-)
-    requires rows { Fitting (board at.old items.old makings.old) }
-    requires there { number < at.old.entered }
-    ensures { board at.new items.new makings.new ≡ enter_all (M.Machine.meaning question.now) (M.Machine.equal question.now) (board at.old items.old makings.old) (by_pending (M.Machine.meaning question.now) (M.Machine.equal question.now) items.old number) }
-{
-    let from = items[number];
-    if !is_base(from.level) {
-        return;
-    }
-    for name in 0..16 {
-        if at.verdict.is_final() {
+    // A pending return behind an item of the base level.
+    pub(crate) fn by_pending(&mut self, number: usize)
+        requires there { number < self.old.at.entered }
+        ensures { Enters self.old self.new (λ A eq items. by_pending A eq items number) }
+    {
+        let question = self.question;
+        let from = self.items[number];
+        if from.level != Level::Base {
             return;
         }
-        let new = Item {
-            level: Level::Base,
-            entry: from.entry,
-            present: question.pending(from.present, name),
-        };
-        let how = How::Stepped {
-            from: number,
-            letter: Letter::Return(name),
-        };
-        enter(question, at, items, makings, &new, how);
+        self.enter_each(|name| Candidate {
+            new: Item {
+                level: Level::Base,
+                entry: from.entry,
+                present: question.pending(from.present, name),
+            },
+            made: Making {
+                how: How::Stepped {
+                    from: number,
+                    letter: Letter::Return(name),
+                },
+            },
+        });
     }
-}
 
-// A call behind an item, into which an inner item begins.
-pub(crate) fn by_call<M: Machine>(
-    question: &M,
-    at: &mut Progress,
-    items: &mut [Item<M::State>],
-    makings: &mut [Making],
-    number: usize,
-)
-    requires rows { Fitting (board at.old items.old makings.old) }
-    requires there { number < at.old.entered }
-    ensures { board at.new items.new makings.new ≡ enter_all (M.Machine.meaning question.now) (M.Machine.equal question.now) (board at.old items.old makings.old) (by_call (M.Machine.meaning question.now) (M.Machine.equal question.now) items.old number) }
-{
-    let from = items[number];
-    for name in 0..16 {
-        if at.verdict.is_final() {
-            return;
-        }
-        let inside = question.call(from.present, name);
-        let new = Item {
-            level: Level::Inner,
-            entry: inside,
-            present: inside,
-        };
-        let how = How::Entered { from: number, name };
-        enter(question, at, items, makings, &new, how);
+    // A call behind an item, into which an inner item begins.
+    pub(crate) fn by_call(&mut self, number: usize)
+        requires there { number < self.old.at.entered }
+        ensures { Enters self.old self.new (λ A eq items. by_call A eq items number) }
+    {
+        let question = self.question;
+        let from = self.items[number];
+        self.enter_each(|name| {
+            let inside = question.call(from.present, name);
+            Candidate {
+                new: Item {
+                    level: Level::Inner,
+                    entry: inside,
+                    present: inside,
+                },
+                made: Making {
+                    how: How::Entered { from: number, name },
+                },
+            }
+        });
     }
 }

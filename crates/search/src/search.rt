@@ -11,6 +11,7 @@ use std::marker::PhantomData;
 #[derive(Drop)]
 pub struct Search<S> {
     pub(crate) at: Progress,
+    // each call takes a machine with these states, and rows of items over them
     pub(crate) states: PhantomData<S>,
     ghost few: { at.entered ≤ places at },
     ghost unhandled: { can_go_on at ≡ true },

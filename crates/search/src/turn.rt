@@ -1,71 +1,50 @@
 // Turns.
 ghost use Rattle.std.specs.Prelude.{◌≡◌, ◌+◌, ◌<◌, true};
-ghost use Rattle.search.specs.Boards.{Fitting, board, can_go_on};
-ghost use Rattle.search.specs.Model.{candidates, enter_all, turn, turns_done};
+ghost use Rattle.search.specs.Boards.{Fitting, can_go_on};
+ghost use Rattle.search.specs.Model.{candidates, turn, turns_done};
+ghost use Rattle.search.specs.Worklists.{Enters, Leads, board_of};
 
-use crate::pairs::{as_first, as_second};
-use crate::progress::Progress;
-use crate::rules::{by_call, by_internal, by_pending};
-use items::item::Item;
-use items::making::Making;
+use crate::worklist::Worklist;
 use nested::machine::Machine;
 
-// Enters what the rules make of an item and of those before it.
-fn handle<M: Machine>(
-    question: &M,
-    at: &mut Progress,
-    items: &mut [Item<M::State>],
-    makings: &mut [Making],
-    number: usize,
-)
-    requires rows { Fitting (board at.old items.old makings.old) }
-    requires there { number < at.old.entered }
-    ensures { board at.new items.new makings.new ≡ enter_all (M.Machine.meaning question.now) (M.Machine.equal question.now) (board at.old items.old makings.old) (candidates (M.Machine.meaning question.now) (M.Machine.equal question.now) items.old number) }
-{
-    by_internal(question, at, items, makings, number);
-    by_pending(question, at, items, makings, number);
-    by_call(question, at, items, makings, number);
-    as_second(question, at, items, makings, number);
-    as_first(question, at, items, makings, number);
-}
-
-// One turn: the next item is handled.
-fn turn<M: Machine>(
-    question: &M,
-    at: &mut Progress,
-    items: &mut [Item<M::State>],
-    makings: &mut [Making],
-)
-    requires rows { Fitting (board at.old items.old makings.old) }
-    requires left { at.old.turns < at.old.entered }
-    ensures { board at.new items.new makings.new ≡ turn (M.Machine.meaning question.now) (M.Machine.equal question.now) (board at.old items.old makings.old) }
-{
-    let number = at.turns;
-    handle(question, at, items, makings, number);
-    at.verdict = at.after_turn();
-    at.turns = number + 1;
-}
-
-// Turns until there were n or the verdict is final. It answers how many there were.
-pub(crate) fn turns<M: Machine>(
-    question: &M,
-    at: &mut Progress,
-    items: &mut [Item<M::State>],
-    makings: &mut [Making],
-    n: usize,
-) -> usize
-    requires rows { Fitting (board at.old items.old makings.old) }
-    requires left { can_go_on at.old ≡ true }
-    ensures done { board at.new items.new makings.new ≡ turns_done (M.Machine.meaning question.now) (M.Machine.equal question.now) n (board at.old items.old makings.old) }
-    ensures rows { Fitting (board at.new items.new makings.new) }
-    ensures left { can_go_on at.new ≡ true }
-    ensures count { at.new.turns ≡ at.old.turns + result }
-{
-    for done in 0..n {
-        if at.verdict.is_final() {
-            return done;
-        }
-        turn(question, at, items, makings);
+impl<M: Machine> Worklist<'_, '_, '_, M> {
+    // Enters what the rules make of an item and of those before it.
+    fn handle(&mut self, number: usize)
+        requires there { number < self.old.at.entered }
+        ensures { Enters self.old self.new (λ A eq items. candidates A eq items number) }
+    {
+        self.by_internal(number);
+        self.by_pending(number);
+        self.by_call(number);
+        // the item as the second, then as the first
+        self.match_each(number, |other| (other, number));
+        self.match_each(number + 1, |other| (number, other));
     }
-    n
+
+    // One turn: the next item is handled.
+    fn turn(&mut self)
+        requires left { self.old.at.turns < self.old.at.entered }
+        ensures { Leads self.old self.new (λ A eq b. turn A eq b) }
+    {
+        let number = self.at.turns;
+        self.handle(number);
+        self.at.verdict = self.at.after_turn();
+        self.at.turns = number + 1;
+    }
+
+    // Turns until there were n or the verdict is final. It answers how many there were.
+    pub(crate) fn turns(&mut self, n: usize) -> usize
+        requires left { can_go_on self.old.at ≡ true }
+        ensures done { Leads self.old self.new (λ A eq b. turns_done A eq n b) }
+        ensures left { can_go_on self.new.at ≡ true }
+        ensures count { self.new.at.turns ≡ self.old.at.turns + result }
+    {
+        for done in 0..n {
+            if self.at.verdict.is_final() {
+                return done;
+            }
+            self.turn();
+        }
+        n
+    }
 }

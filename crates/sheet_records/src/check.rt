@@ -1,5 +1,4 @@
 // A record checked with a sheet.
-ghost use Rattle.name_list.specs.Names.{names_of};
 ghost use Rattle.sheets.specs.Sheets.{described};
 ghost use Rattle.sheet_records.specs.Checking.{ChecksByRuns};
 
@@ -14,6 +13,7 @@ use sheets::state::SheetState;
 ///
 /// Without a fault and a refusal, the standing accepts exactly if some run of the sheet's automaton on the word that the record spells
 /// ends in an accepting state.
+#[tactic(auto, using(crate::proofs::Runs::checks_by_runs))]
 pub fn check_with_sheet(
     names: &NameList,
     bytes: &[u8],
@@ -21,7 +21,7 @@ pub fn check_with_sheet(
     codes: &mut [u8],
     marks: &mut [Mark<SheetState>],
 ) -> Result<Standing, Unchecked>
-    ensures { ChecksByRuns (described sheet.now) (names_of names.now.names) bytes.now codes.old codes.new marks.old marks.new result }
+    ensures { ChecksByRuns (described sheet.now) names.now bytes.now codes.old codes.new marks.old marks.new result }
 {
     check_record(names, bytes, sheet, codes, marks)
 }

@@ -1,10 +1,10 @@
 -- The moves of a list.
-use Rattle.std.proofs.Common.{◌≡◌, ℕ, zero, suc, ◌<◌, true, cond, ◌&&◌, ◌||◌, eqb, List, [], ◌∷◌, ◌++◌, length, get_or, sym, refl, ap, ◌∙◌, subst, ap₂, ⊎_elim, arith}
+use Rattle.std.proofs.Common.{◌≡◌, ℕ, zero, suc, ◌<◌, true, cond, ◌&&◌, ◌||◌, eqb, ltb, List, [], ◌∷◌, ◌++◌, length, get_or, sym, refl, ap, ◌∙◌, subst, ap₂, ⊎_elim, arith}
 use mathlib.Core.Bool.{and_assoc, or_assoc}
 use Rattle.std.specs.List.{ContainsAt as Has, AllByRecursion}
 use Rattle.std.proofs.ByRecursion.{all-has}
 use Rattle.std.proofs.lemmas.Slice.Eq.{bytes_eq-Decides}
-use Rattle.std.proofs.lemmas.Bool.{and_from, and_parts, eq-eqb, eqb-true, or_cases, or_left, or_right}
+use Rattle.std.proofs.lemmas.Bool.{and_from, and_parts, eq-eqb, eqb-true, ltb-true, or_cases, or_left, or_right}
 use Rattle.std.specs.Str.{bytes_eq}
 use Rattle.sheets.specs.Moves.{all_in_range, among, in_range, kind, parts, same_move}
 use Rattle.sheets.specs.declared.moves.Move.{Move}
@@ -64,3 +64,10 @@ pub in_range_append : (n : ℕ) (ms ns : List Move) → all_in_range n (ms ++ ns
 unfolding all_in_range
 in_range_append n [] ns = refl
 in_range_append n (m ∷ ms) ns = ap (λ t. in_range n m && t) (in_range_append n ms ns) ∙ sym (and_assoc (in_range n m) (all_in_range n ms) (all_in_range n ns))
+
+pub mark_below : (n q a q' m : ℕ) → in_range n (Call q a q' m) ≡ true → m < 16
+mark_below n q a q' m h = ltb-true m 16 (and_parts (ltb q' n) _ (and_parts (ltb a 16) _ (and_parts (ltb q n) _ h).1).1).1
+
+pub return_below : (from name mark to : ℕ) → in_range 8 (Return from name mark to) ≡ true → (from < 8) × (mark < 16)
+return_below from name mark to h =
+    let (starts, more) = and_parts (ltb from 8) _ h in (ltb-true from 8 starts, ltb-true mark 16 (and_parts (ltb mark 16) _ (and_parts (ltb name 16) _ more).1).0)

@@ -1,103 +1,71 @@
 -- The bits of a number.
-use Rattle.std.proofs.Common.{◌≡◌, ℕ, zero, suc, ◌+◌, ◌-◌, ◌*◌, ◌/◌, ◌%◌, ◌^◌, ◌<◌, ◌≤◌, false, ◌&&◌, ◌||◌, eqb, sym, refl, ap, ◌∙◌, ap₂, ⊎_elim, pow-suc, div-one, arith, pow_mono}
-use native.Mathlib.Nat.{div-eq_of_lt}
-use lib.Pow.{field, mod-mod-pow}
+use Rattle.std.proofs.Common.{◌≡◌, ℕ, zero, suc, ◌+◌, ◌-◌, ◌*◌, ◌/◌, ◌%◌, ◌^◌, ◌<◌, ◌≤◌, false, ◌&&◌, ◌||◌, Bool, eqb, sym, ap, ◌∙◌, ap₂, ⊎_elim, div-one, arith}
 use lib.Bits.{and_block, bit_and, bit_or}
-use Rattle.std.proofs.lemmas.Nat.{and_le_r, and_mask, and_mod, and_shr, mod_low, mul-le, or_mod, or_shr, pow_pos, shr_high, shr-shr, shr_split}
-use Rattle.std.proofs.lemmas.Bool.{cases_lt, ne_eqb}
+use Rattle.std.proofs.lemmas.Nat.{and_le_r, and_mask, mul-le, shr-shr, shr_split}
+use Rattle.std.proofs.lemmas.Nat.Bits.{bit_at-lt, bit_at-pow_other, bit_at-pow_same, bit_at-zero, bit_at_above, bit_at_and, bit_at_cat_high, bit_at_cat_low, bit_at_or, same_from_bits_below}
+use Rattle.std.proofs.lemmas.Bool.{cases_eq, eq-eqb, ne_eqb}
+use Rattle.std.proofs.lemmas.Bool.Decides.{nat_tests}
+use Rattle.std.specs.Int.{bit_at}
 use Rattle.sheets.specs.Masks.{has}
+
+-- the test of a digit
+abbrev one : ℕ → Bool
+one x = eqb x 1
 
 pub has_shr : (m k i : ℕ) → has (m / 2 ^ k) i ≡ has m (k + i)
 unfolding has
-has_shr m k i = ap (λ x. eqb (x % 2) 1) (shr-shr m k i)
+has_shr m k i = ap (λ x. one (x % 2)) (shr-shr m k i)
 
 pub has_above : (k m i : ℕ) → m < 2 ^ k → k ≤ i → has m i ≡ false
 unfolding has
-has_above k m i h le = ap (λ x. eqb (x % 2) 1) (div-eq_of_lt {n = m} {m = 2 ^ i} (omega (arith, pow_mono le)))
+has_above k m i h le = ap one (bit_at_above m k i h le)
 
-pub has_first : (m : ℕ) → has m 0 ≡ eqb (m % 2) 1
+pub has_first : (m : ℕ) → has m 0 ≡ one (m % 2)
 unfolding has
-has_first m = ap (λ x. eqb (x % 2) 1) (div-one m)
-
--- the k low digits
-has_low : (m d i : ℕ) → has (m % 2 ^ (d + 1 + i)) i ≡ has m i
-unfolding has
-has_low m d i = ap (λ x. eqb (x % 2) 1) (field m (d + 1) i) ∙ ap (λ x. eqb x 1) (mod-mod-pow (m / 2 ^ i) d 1)
-
-pub has_mod : (m k i : ℕ) → i < k → has (m % 2 ^ k) i ≡ has m i
-has_mod m k i lt =
-    let e : k ≡ k - suc i + 1 + i = omega arith in
-    ap (λ x. has (m % 2 ^ x) i) e ∙ has_low m (k - suc i) i
+has_first m = ap (λ x. one (x % 2)) (div-one m)
 
 -- a number as a high part and k low digits
 module _ (a k r : ℕ) (h : r < 2 ^ k) where
   pub block_low : (i : ℕ) → i < k → has (a * 2 ^ k + r) i ≡ has r i
-  block_low i lt = sym (has_mod (a * 2 ^ k + r) k i lt) ∙ ap (λ x. has x i) (mod_low a k r h)
+  unfolding has
+  block_low i lt = ap one (bit_at_cat_low a k r i lt)
 
   pub block_high : (i : ℕ) → has (a * 2 ^ k + r) (k + i) ≡ has a i
-  block_high i = sym (has_shr (a * 2 ^ k + r) k i) ∙ ap (λ x. has x i) (shr_high a k r h)
+  unfolding has
+  block_high i = let e : k + i - k ≡ i = omega arith in ap one (bit_at_cat_high a k r (k + i) h (omega arith) ∙ ap (bit_at a) e)
 
-digit_or : (x y : ℕ) → x < 2 → y < 2 → eqb (bit_or x y) 1 ≡ eqb x 1 || eqb y 1
-digit_or zero y p q = refl
-digit_or (suc zero) zero p q = refl
-digit_or (suc zero) (suc zero) p q = refl
-digit_or (suc zero) (suc (suc y)) p q = absurd (omega arith)
-digit_or (suc (suc x)) y p q = absurd (omega arith)
-
-digit_and : (x y : ℕ) → x < 2 → y < 2 → eqb (bit_and x y) 1 ≡ eqb x 1 && eqb y 1
-digit_and zero y p q = refl
-digit_and (suc zero) zero p q = refl
-digit_and (suc zero) (suc zero) p q = refl
-digit_and (suc zero) (suc (suc y)) p q = absurd (omega arith)
-digit_and (suc (suc x)) y p q = absurd (omega arith)
-
-digit_same : (x y : ℕ) → x < 2 → y < 2 → eqb x 1 ≡ eqb y 1 → x ≡ y
-digit_same x y p q e = grind (arith, e)
+-- the k low digits
+pub has_mod : (m k i : ℕ) → i < k → has (m % 2 ^ k) i ≡ has m i
+unfolding has
+has_mod m k i lt = ap one (sym (bit_at_cat_low (m / 2 ^ k) k (m % 2 ^ k) i lt) ∙ ap (λ x. bit_at x i) (shr_split m k))
 
 pub has_or : (m n i : ℕ) → has (bit_or m n) i ≡ has m i || has n i
 unfolding has
-has_or m n i =
-    ap (λ x. eqb (x % 2) 1) (or_shr m n i)
-    ∙ ap (λ x. eqb x 1) (or_mod (m / 2 ^ i) (n / 2 ^ i) 1)
-    ∙ digit_or (m / 2 ^ i % 2) (n / 2 ^ i % 2) (omega arith) (omega arith)
+has_or m n i = let p = bit_at-lt m i in let q = bit_at-lt n i in ap one (bit_at_or m n i) ∙ grind (arith, nat_tests)
 
 pub has_and : (m n i : ℕ) → has (bit_and m n) i ≡ has m i && has n i
 unfolding has
-has_and m n i =
-    ap (λ x. eqb (x % 2) 1) (and_shr m n i)
-    ∙ ap (λ x. eqb x 1) (and_mod (m / 2 ^ i) (n / 2 ^ i) 1)
-    ∙ digit_and (m / 2 ^ i % 2) (n / 2 ^ i % 2) (omega arith) (omega arith)
+has_and m n i = let p = bit_at-lt m i in let q = bit_at-lt n i in ap one (bit_at_and m n i) ∙ grind (arith, nat_tests)
 
-half_below : (k m : ℕ) → m < 2 ^ suc k → m / 2 < 2 ^ k
-half_below k m h = let e = pow-suc 2 k in omega arith
+digit_same : (x y : ℕ) → x < 2 → y < 2 → one x ≡ one y → x ≡ y
+digit_same x y p q e = grind (arith, e)
 
 -- a number is its bits
 pub one_mask : (k m n : ℕ) → m < 2 ^ k → n < 2 ^ k → ((i : ℕ) → i < k → has m i ≡ has n i) → m ≡ n
-one_mask zero m n p q same = omega arith
-one_mask (suc k) m n p q same =
-    let halves : m / 2 ≡ n / 2 = one_mask k (m / 2) (n / 2) (half_below k m p) (half_below k n q)
-    (λ i lt. has_shr m 1 i ∙ same (1 + i) (omega arith) ∙ sym (has_shr n 1 i)) in
-    let firsts : m % 2 ≡ n % 2 = digit_same (m % 2) (n % 2) (omega arith) (omega arith)
-    (sym (has_first m) ∙ same 0 (omega arith) ∙ has_first n) in
-    omega arith
+unfolding has
+one_mask k m n p q same = same_from_bits_below k m n p q (λ i lt. digit_same (bit_at m i) (bit_at n i) (bit_at-lt m i) (bit_at-lt n i) (same i lt))
 
 has_zero : (i : ℕ) → has 0 i ≡ false
-has_zero i = has_above 0 0 i (omega arith) (omega arith)
+unfolding has
+has_zero i = ap one (bit_at-zero i)
 
 -- a power of two has one bit
-has_one : (i : ℕ) → has 1 i ≡ eqb i 0
-unfolding has
-has_one zero = refl
-has_one (suc i) = has_above 1 1 (suc i) (omega arith) (omega arith) ∙ sym (ne_eqb (suc i) 0 (omega arith))
-
 pub has_power : (k i : ℕ) → has (2 ^ k) i ≡ eqb i k
-has_power k i =
-    let whole : 2 ^ k ≡ 1 * 2 ^ k + 0 = omega arith in
-    ap (λ x. has x i) whole ∙ ⊎_elim
-    (λ lt. block_low 1 k 0 (pow_pos k) i lt ∙ has_zero i ∙ sym (ne_eqb i k (omega arith)))
-    (λ le. let e : k + (i - k) ≡ i = omega arith in
-    ap (has (1 * 2 ^ k + 0)) (sym e) ∙ block_high 1 k 0 (pow_pos k) (i - k) ∙ has_one (i - k) ∙ grind arith)
-    (cases_lt i k)
+unfolding has
+has_power k i = ⊎_elim
+    (λ e. ap (λ x. one (bit_at (2 ^ k) x)) e ∙ ap one (bit_at-pow_same k) ∙ sym (eq-eqb i k e))
+    (λ n. ap one (bit_at-pow_other k i n) ∙ sym (ne_eqb i k n))
+    (cases_eq i k)
 
 -- a bit times a row
 digit_times : (x row i : ℕ) → x < 2 → has (x * row) i ≡ eqb x 1 && has row i
@@ -146,3 +114,6 @@ has_column = has_times 8
 
 pub column_below : (m row : ℕ) → row < 2 ^ 8 → bit_and m 72340172838076673 * row < 2 ^ 64
 column_below m row h = let le = mul-le (bit_and m 72340172838076673) row 72340172838076673 255 (and_le_r m 72340172838076673) (omega arith) in omega arith
+
+pub byte_below : (m : ℕ) → bit_and m 255 < 2 ^ 8
+byte_below m = omega (arith, and_le_r m 255)

@@ -12,7 +12,7 @@ use Rattle.sheets.specs.Steps.{Relation, by_call, by_inner, by_internal, by_pend
 use Rattle.sheets.specs.declared.moves.Move.{Move}
 use Rattle.sheets.specs.declared.moves.Move.TheVariants.{Internal, Call, Return, Pending}
 use Rattle.sheets.specs.declared.state.SheetState.{SheetState}
-use Rattle.sheets.proofs.Among.{among_has, has_among, has_in_range}
+use Rattle.sheets.proofs.Among.{among_has, has_among, has_in_range, mark_below}
 use Rattle.sheets.proofs.Some.{some_at, some_from}
 use Rattle.sheets.proofs.Tracks.{Called, Configs, Honest, Tracked, both_at, both_from, fresh_back, fresh_into, onward_back, onward_honest, onward_into}
 
@@ -28,9 +28,6 @@ to_below n (Internal q a q') h = ltb-true q' n (and_parts (ltb a 16) _ (and_part
 to_below n (Call q a q' m) h = ltb-true q' n (and_parts (ltb q' n) _ (and_parts (ltb a 16) _ (and_parts (ltb q n) _ h).1).1).0
 to_below n (Return q b m q') h = ltb-true q' n (and_parts (ltb m 16) _ (and_parts (ltb b 16) _ (and_parts (ltb q n) _ h).1).1).1
 to_below n (Pending q b q') h = ltb-true q' n (and_parts (ltb b 16) _ (and_parts (ltb q n) _ h).1).1
-
-mark_below : (n q a q' m : ℕ) → in_range n (Call q a q' m) ≡ true → m < 16
-mark_below n q a q' m h = ltb-true m 16 (and_parts (ltb q' n) _ (and_parts (ltb a 16) _ (and_parts (ltb q n) _ h).1).1).1
 
 module _ (ms : List Move) where
   internal_step : (a q : ℕ) (stack : List ℕ) (q' : ℕ) (stack' : List ℕ) → Step ms (letter.Internal a) q stack q' stack' → (stack ≡ stack') × Has ms (Internal q (a % 16) q')

@@ -1,23 +1,22 @@
 -- Steps by the moves of a list, one after the other.
-use Rattle.std.proofs.Common.{◌≡◌, ℕ, ◌+◌, ◌<◌, ◌≤◌, Bool, true, false, ◌&&◌, ◌||◌, List, [], ◌∷◌, ◌++◌, length, get_or, take, sym, refl, ap, ◌∙◌, subst, ap₂, arith}
+use Rattle.std.proofs.Common.{◌≡◌, ℕ, ◌+◌, ◌%◌, ◌<◌, ◌≤◌, Bool, true, false, ◌&&◌, ◌||◌, List, [], ◌∷◌, ◌++◌, length, get_or, take, vec_items, sym, refl, ap, ◌∙◌, subst, ap₂, arith}
 use Rattle.std.proofs.ByRecursion.{has_get_or}
 use Rattle.std.proofs.lemmas.List.{take_all, take_more}
-use Rattle.std.proofs.lemmas.Bool.{and_right}
+use Rattle.std.proofs.Math.Bool.{and-false, and-or_distrib_left, and-or_distrib_right}
 use Rattle.std.proofs.lemmas.Bool.Decides.{nat_tests}
+use Rattle.nested.specs.declared.letter.Letter.{Letter}
+use Rattle.nested.specs.declared.letter.Letter.TheVariants as letter
+use Rattle.sheets.specs.Loops.{Additive}
 use Rattle.sheets.specs.Masks.{pair_in, some_below}
 use Rattle.sheets.specs.Moves.{all_in_range, among, in_range}
-use Rattle.sheets.specs.Steps.{Relation, by_call, by_inner, by_internal, by_pending, by_return, joined, nowhere, onward}
+use Rattle.sheets.specs.Steps.{Relation, by_inner, by_letter, by_return, joined, nowhere, onward}
 use Rattle.sheets.specs.declared.moves.Move.{Move}
 use Rattle.sheets.specs.declared.moves.Move.TheVariants.{Internal, Call, Return, Pending}
+use Rattle.sheets.specs.declared.sheet.Sheet.{Sheet}
 use Rattle.sheets.specs.declared.state.SheetState.{SheetState}
 use Rattle.sheets.proofs.Among.{among_append, has_in_range}
-use Rattle.sheets.proofs.Onward.{and_or, onward_none, onward_or, onward_same}
+use Rattle.sheets.proofs.Onward.{onward_none, onward_or, onward_same}
 use Rattle.sheets.proofs.Some.{some_none, some_or, some_same}
-
--- A test of a list of moves that one of them passes: no list of none, and a list and one move more where one of the two does.
-pub record Additive (f : List Move → Bool) : Type 0 where
-  pub none : f [] ≡ false
-  pub more : (ms : List Move) (m : Move) → f (ms ++ m ∷ []) ≡ f ms || f (m ∷ [])
 
 additive_among : (x : Move) → Additive (λ ms. among ms x)
 unfolding among
@@ -29,34 +28,23 @@ additive_some k f h = record {
   more = λ ms m. some_same k (λ i. f i (ms ++ m ∷ [])) (λ i. f i ms || f i (m ∷ [])) (λ i _. (h i).more ms m) ∙ some_or k (λ i. f i ms) (λ i. f i (m ∷ []));
 }
 
-and_or_right : (a b c : Bool) → (a || b) && c ≡ (a && c) || (b && c)
-and_or_right true true true = refl
-and_or_right true true false = refl
-and_or_right true false true = refl
-and_or_right true false false = refl
-and_or_right false b c = refl
-
 additive_behind : (a : Bool) (f : List Move → Bool) → Additive f → Additive (λ ms. a && f ms)
 additive_behind a f h = record {
-  none = ap (λ t. a && t) h.none ∙ and_right a false refl;
-  more = λ ms m. ap (λ t. a && t) (h.more ms m) ∙ and_or a (f ms) (f (m ∷ []));
+  none = ap (λ t. a && t) h.none ∙ and-false a;
+  more = λ ms m. ap (λ t. a && t) (h.more ms m) ∙ and-or_distrib_left a (f ms) (f (m ∷ []));
 }
 
 additive_before : (a : Bool) (f : List Move → Bool) → Additive f → Additive (λ ms. f ms && a)
 additive_before a f h = record {
   none = ap (λ t. t && a) h.none;
-  more = λ ms m. ap (λ t. t && a) (h.more ms m) ∙ and_or_right (f ms) (f (m ∷ [])) a;
+  more = λ ms m. ap (λ t. t && a) (h.more ms m) ∙ and-or_distrib_right (f ms) (f (m ∷ [])) a;
 }
 
 -- the relations by which a sheet steps
-pub additive_internal : (a q q' : ℕ) → Additive (λ ms. by_internal ms a q q')
-additive_internal a q q' = additive_among (Internal q a q')
-
-pub additive_pending : (b q q' : ℕ) → Additive (λ ms. by_pending ms b q q')
-additive_pending b q q' = additive_among (Pending q b q')
-
-pub additive_call : (a q q' : ℕ) → Additive (λ ms. by_call ms a q q')
-additive_call a q q' = additive_some 16 (λ m ms. among ms (Call q a q' m)) (λ m. additive_among (Call q a q' m))
+pub additive_letter : (l : Letter) (q q' : ℕ) → Additive (λ ms. by_letter ms l q q')
+additive_letter (letter.Internal a) q q' = additive_among (Internal q (a % 16) q')
+additive_letter (letter.Call a) q q' = additive_some 16 (λ m ms. among ms (Call q (a % 16) q' m)) (λ m. additive_among (Call q (a % 16) q' m))
+additive_letter (letter.Return b) q q' = additive_among (Pending q (b % 16) q')
 
 pub additive_inner : (s a m q1 q3 : ℕ) → Additive (λ ms. by_inner ms s a m q1 q3)
 additive_inner s a m q1 q3 = additive_some 8 (λ q2 ms. among ms (Call q1 a q2 m) && pair_in s q2 q3) (λ q2. additive_before (pair_in s q2 q3) (λ ms. among ms (Call q1 a q2 m)) (additive_among (Call q1 a q2 m)))
@@ -72,8 +60,9 @@ range_wider n (Call q a q' m) le h = grind (arith, nat_tests)
 range_wider n (Return q b m q') le h = grind (arith, nat_tests)
 range_wider n (Pending q b q') le h = grind (arith, nat_tests)
 
-pub move_in_range : (n : ℕ) (ms items : List Move) (i : ℕ) (d : Move) → items ≡ ms → all_in_range n ms ≡ true → n ≤ 8 → i < length items → in_range 8 (get_or items i d) ≡ true
-move_in_range n ms items i d is all le lt = range_wider n (get_or items i d) le (has_in_range n items (get_or items i d) (ap (all_in_range n) is ∙ all) (has_get_or items i d lt))
+pub move_in_range : (s : Sheet) (items : List Move) (i : ℕ) (d : Move) → items ≡ vec_items s.moves → i < length items → in_range 8 (get_or items i d) ≡ true
+move_in_range s items i d is lt =
+    let m = get_or items i d in range_wider s.states m s.few_states (has_in_range s.states items m (ap (all_in_range s.states) is ∙ s.moves_in) (has_get_or items i d lt))
 
 -- the first moves of a list, one move more, and all of them
 module _ (t : List Move → Relation) (adds : (q q' : ℕ) → Additive (λ ms. t ms q q')) (s : SheetState) where

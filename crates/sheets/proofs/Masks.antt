@@ -2,6 +2,7 @@
 use Rattle.std.proofs.Common.{◌≡◌, ℕ, zero, suc, ◌+◌, ◌-◌, ◌*◌, ◌/◌, ◌%◌, ◌^◌, ◌<◌, ◌≤◌, Bool, true, false, cond, not, ◌&&◌, ◌||◌, eqb, ltb, sym, refl, ap, ◌∙◌, ap₂, ⊎_elim, add-zero, mod-eq_of_lt, add_comm, pow-suc, arith}
 use lib.Bits.{bit_and, bit_or}
 use Rattle.std.proofs.lemmas.Nat.{and_le_r, and_mask, or_lt, pow_below, pow_pos}
+use Rattle.std.proofs.Math.Bool.{not-not}
 use Rattle.std.proofs.lemmas.Bool.{cases_Bool, cases_eq, eqb-true, not-false, true≢false}
 use Rattle.sheets.specs.Masks.{MasksAreSets, has, mask_of, pair_in, pairs_where, some_below, some_state, state_in, states_where}
 use Rattle.sheets.proofs.Bits.{bit_below, bit_times, block_high, block_low, column_below, has_column, has_mod, has_power}
@@ -139,12 +140,8 @@ mask_none (suc k) f = one (f k) (some_below k f) (2 ^ k) (mask_of k f) (pow_pos 
     one : (t s : Bool) (w x : ℕ) → 0 < w → eqb x 0 ≡ not s → eqb (x + cond t w 0) 0 ≡ not (s || t)
     one t s w x h e = grind (arith, e)
 
-not_twice : (b : Bool) → not (not b) ≡ b
-not_twice true = refl
-not_twice false = refl
-
 -- two sets of states meet
 pub sets_meet : (m n : ℕ) → m < 2 ^ 8 → n < 2 ^ 8 → not (eqb (bit_and m n) 0) ≡ some_state (λ q. state_in m q && state_in n q)
 sets_meet m n p q =
     ap (λ x. not (eqb x 0)) (mask_from 8 (bit_and m n) (λ i. has m i && has n i) (omega (arith, and_le_r m n)) (λ i _. has_and m n i))
-    ∙ ap not (mask_none 8 (λ i. has m i && has n i)) ∙ not_twice (some_state (λ i. has m i && has n i))
+    ∙ ap not (mask_none 8 (λ i. has m i && has n i)) ∙ not-not (some_state (λ i. has m i && has n i))

@@ -1,16 +1,14 @@
 -- Steps by relations of states.
-use Rattle.std.proofs.Common.{◌≡◌, ℕ, ◌*◌, ◌/◌, ◌%◌, ◌^◌, ◌<◌, Bool, true, false, ◌&&◌, ◌||◌, eqb, sym, refl, ap, ◌∙◌}
+use Rattle.std.proofs.Common.{◌≡◌, ℕ, ◌*◌, ◌/◌, ◌%◌, ◌^◌, ◌<◌, Bool, false, ◌&&◌, ◌||◌, eqb, sym, refl, ap, ◌∙◌, arith}
 use lib.Bits.{bit_and}
-use Rattle.std.proofs.lemmas.Bool.{and_from, and_parts, and_right}
+use Rattle.std.proofs.Math.Bool.{and-false, and-or_distrib_left}
+use Rattle.std.proofs.lemmas.Bool.{and_from, and_parts}
 use Rattle.sheets.specs.Masks.{has, mask_of, pair_in, some_state, state_in}
 use Rattle.sheets.specs.Steps.{Relation, at_sets, joined, nowhere, onward}
 use Rattle.sheets.specs.declared.state.SheetState.{SheetState}
-use Rattle.sheets.proofs.Masks.{bit_moved, bit_row, column_moved, column_rows, masks_are_sets, pairs_or, pairs_same, states_or, states_same}
+use Rattle.sheets.proofs.Bits.{byte_below}
+use Rattle.sheets.proofs.Masks.{bit_moved, bit_row, column_moved, column_rows, masks_are_sets, pairs_or, pairs_same, row_of, states_or, states_same}
 use Rattle.sheets.proofs.Some.{same_test, some_at, some_from, some_none, some_or, some_point, some_same}
-
-pub and_or : (a b c : Bool) → a && (b || c) ≡ (a && b) || (a && c)
-and_or true b c = refl
-and_or false b c = refl
 
 -- equal parts make one state
 pub same_sets : (s u : SheetState) → s.pairs ≡ u.pairs → s.states ≡ u.states → s ≡ u
@@ -30,21 +28,16 @@ module _ (has_it : ℕ → Bool) where
 
   pub reached_or : (t u : Relation) (q' : ℕ) → reached (λ q r. t q r || u q r) q' ≡ reached t q' || reached u q'
   reached_or t u q' =
-      some_same 8 (λ q. has_it q && (t q q' || u q q')) (λ q. (has_it q && t q q') || (has_it q && u q q')) (λ q lt. and_or (has_it q) (t q q') (u q q'))
+      some_same 8 (λ q. has_it q && (t q q' || u q q')) (λ q. (has_it q && t q q') || (has_it q && u q q')) (λ q lt. and-or_distrib_left (has_it q) (t q q') (u q q'))
       ∙ some_or 8 (λ q. has_it q && t q q') (λ q. has_it q && u q q')
 
   pub reached_none : (q' : ℕ) → reached (λ q r. false) q' ≡ false
-  reached_none q' = some_same 8 (λ q. has_it q && false) (λ q. false) (λ q lt. and_right (has_it q) false refl) ∙ some_none 8
-
-  and_swap : (a b c : Bool) → a && (b && c) ≡ b && (a && c)
-  and_swap true b c = refl
-  and_swap false true c = refl
-  and_swap false false c = refl
+  reached_none q' = some_same 8 (λ q. has_it q && false) (λ q. false) (λ q lt. and-false (has_it q)) ∙ some_none 8
 
   -- from one state
   pub reached_from : (from : ℕ) (f : ℕ → Bool) (q' : ℕ) → from < 8 → reached (λ q r. eqb q from && f r) q' ≡ has_it from && f q'
   reached_from from f q' lt =
-      some_same 8 (λ q. has_it q && (eqb q from && f q')) (λ q. eqb q from && (has_it q && f q')) (λ q _. and_swap (has_it q) (eqb q from) (f q'))
+      some_same 8 (λ q. has_it q && (eqb q from && f q')) (λ q. eqb q from && (has_it q && f q')) (λ q _. grind arith)
       ∙ some_point 8 from (λ q. has_it q && f q') lt
 
 -- two steps, one behind the other, are one
@@ -124,7 +117,10 @@ module _ (s : SheetState) where
         same_sets _ (at_sets (λ p q. pairs_of p from && eqb q to) (λ q. states_of from && eqb q to)) (column_moved s.pairs from to lt') (bit_moved s.states from to lt')
         ∙ onward_from from (λ q. eqb q to) lt
 
-    pub spread_sets : (to : ℕ) → to < 2 ^ 8 → ◌≡◌ {A = SheetState} (record { pairs = bit_and (s.pairs / 2 ^ from) 72340172838076673 * to; states = bit_and (s.states / 2 ^ from) 1 * to }) (onward s (λ q q'. eqb q from && has to q'))
-    spread_sets to byte =
-        same_sets _ (at_sets (λ p q. pairs_of p from && has to q) (λ q. states_of from && has to q)) (column_rows s.pairs from to byte) (bit_row s.states from to byte)
-        ∙ onward_from from (has to) lt
+    pub spread_sets : (inner to : ℕ) → ◌≡◌ {A = SheetState} (record { pairs = bit_and (s.pairs / 2 ^ from) 72340172838076673 * bit_and (inner / 2 ^ (8 * to)) 255; states = bit_and (s.states / 2 ^ from) 1 * bit_and (inner / 2 ^ (8 * to)) 255 }) (onward s (λ q q'. eqb q from && pair_in inner to q'))
+    spread_sets inner to =
+        let row = bit_and (inner / 2 ^ (8 * to)) 255 in
+        let byte = byte_below (inner / 2 ^ (8 * to)) in
+        same_sets _ (at_sets (λ p q. pairs_of p from && has row q) (λ q. states_of from && has row q)) (column_rows s.pairs from row byte) (bit_row s.states from row byte)
+        ∙ onward_from from (has row) lt
+        ∙ onward_same (λ q q'. eqb q from && has row q') (λ q q'. eqb q from && pair_in inner to q') (λ q q' _ lt'. ap (λ t. eqb q from && t) (ap (λ x. has x q') (row_of inner to) ∙ masks_are_sets.states (λ r. pair_in inner to r) q' lt'))

@@ -5,9 +5,7 @@ use Rattle.sheets.specs.Masks.{some_below}
 
 -- two tests are one where each implies the other
 pub same_test : (a b : Bool) → (a ≡ true → b ≡ true) → (b ≡ true → a ≡ true) → a ≡ b
-same_test true b f g = sym (f refl)
-same_test false true f g = g refl
-same_test false false f g = refl
+same_test a b f g = grind (arith, f, g)
 
 pub some_from : (k : ℕ) (f : ℕ → Bool) → some_below k f ≡ true → (i : ℕ) × (i < k) × (f i ≡ true)
 unfolding some_below

@@ -1,16 +1,17 @@
 -- What one move adds to a step by a call, the letters behind it, and its return.
-use Rattle.std.proofs.Common.{◌≡◌, ℕ, ◌<◌, Bool, true, false, ◌&&◌, ◌||◌, eqb, List, [], ◌∷◌, length, get_or, set, sym, refl, ap, ◌∙◌, ap₂, ⊎_elim}
+use Rattle.std.proofs.Common.{◌≡◌, ℕ, ◌<◌, true, false, ◌&&◌, ◌||◌, eqb, List, [], ◌∷◌, length, get_or, set, sym, refl, ap, ◌∙◌, ap₂, ⊎_elim, arith}
 use lib.Bits.{or_zero_r}
 use Rattle.std.proofs.lemmas.List.{get_or_default, get_or-set_other, get_or-set_same}
+use Rattle.std.proofs.Math.Bool.{and-false}
+use Rattle.std.proofs.lemmas.Bool.Decides.{nat_tests}
 use Rattle.std.proofs.lemmas.Bool.{cases_eq, eq-eqb, ne_eqb}
-use Rattle.sheets.specs.Masks.{has, pair_in, some_mark, some_state, states_where}
-use Rattle.sheets.specs.Moves.{among}
+use Rattle.sheets.specs.Masks.{pair_in, some_mark, some_state}
+use Rattle.sheets.specs.Moves.{among, in_range}
 use Rattle.sheets.specs.Steps.{Relation, StepsOn, by_inner, by_return, joined, nowhere, onward}
 use Rattle.sheets.specs.declared.moves.Move.{Move}
 use Rattle.sheets.specs.declared.moves.Move.TheVariants.{Internal, Call, Return, Pending}
 use Rattle.sheets.specs.declared.state.SheetState.{SheetState}
-use Rattle.sheets.proofs.Edges.{eqb_swap}
-use Rattle.sheets.proofs.Masks.{masks_are_sets}
+use Rattle.sheets.proofs.Among.{return_below}
 use Rattle.sheets.proofs.Onward.{onward_none, onward_same, onward_twice, same_sets}
 use Rattle.sheets.proofs.Some.{some_none, some_point, some_same}
 
@@ -18,28 +19,13 @@ pub joined_nowhere : (s : SheetState) → joined s nowhere ≡ s
 joined_nowhere s = same_sets (joined s nowhere) s (or_zero_r s.pairs) (or_zero_r s.states)
 
 -- By a call move.
-call_arranged : (x y z m p : Bool) → ((x && (y && (z && (m && true)))) || false) && p ≡ z && (m && (y && (x && p)))
-call_arranged true true true true p = refl
-call_arranged true true true false p = refl
-call_arranged true true false m p = refl
-call_arranged true false true true p = refl
-call_arranged true false true false p = refl
-call_arranged true false false m p = refl
-call_arranged false true true true p = refl
-call_arranged false true true false p = refl
-call_arranged false true false m p = refl
-call_arranged false false true true p = refl
-call_arranged false false true false p = refl
-call_arranged false false false m p = refl
-
 by_one_inner : (from name to mark s a m q1 q3 : ℕ) → to < 8 → by_inner (Call from name to mark ∷ []) s a m q1 q3 ≡ eqb mark m && (eqb name a && (eqb q1 from && pair_in s to q3))
 unfolding among
 by_one_inner from name to mark s a m q1 q3 lt =
     some_same 8
     (λ q2. ((eqb from q1 && (eqb name a && (eqb to q2 && (eqb mark m && true)))) || false) && pair_in s q2 q3)
     (λ q2. eqb q2 to && (eqb mark m && (eqb name a && (eqb q1 from && pair_in s q2 q3))))
-    (λ q2 _. call_arranged (eqb from q1) (eqb name a) (eqb to q2) (eqb mark m) (pair_in s q2 q3)
-    ∙ ap₂ (λ z x. z && (eqb mark m && (eqb name a && (x && pair_in s q2 q3)))) (eqb_swap to q2) (eqb_swap from q1))
+    (λ q2 _. grind (arith, nat_tests))
     ∙ some_point 8 to (λ q2. eqb mark m && (eqb name a && (eqb q1 from && pair_in s q2 q3))) lt
 
 -- a move that is no call
@@ -65,61 +51,34 @@ module _ (before : SheetState) (s a : ℕ) (x : Move) (row : List SheetState) wh
     by_this : (m q1 q3 : ℕ) → by_inner (x ∷ []) s a m q1 q3 ≡ eqb mark m && (eqb name a && (eqb q1 from && pair_in s to q3))
     by_this m q1 q3 = ap (λ y. by_inner (y ∷ []) s a m q1 q3) is ∙ by_one_inner from name to mark s a m q1 q3 lt_to
 
-    and_never : (t u v : Bool) → u ≡ false → t && (u && v) ≡ false
-    and_never true u v e = ap (λ z. z && v) e
-    and_never false u v e = refl
-
     pub enter_miss : (name ≡ a → ⊥) → Entered row
-    enter_miss other m lt = unchanged m (λ q1 q3. by_this m q1 q3 ∙ and_never (eqb mark m) (eqb name a) (eqb q1 from && pair_in s to q3) (ne_eqb name a other))
+    enter_miss other m lt = unchanged m (λ q1 q3. by_this m q1 q3 ∙ (let e = ne_eqb name a other in grind arith))
 
-    -- the place of the mark, and the states that the letters behind the call lead to
-    pub enter_hit : (place states : ℕ) (d add v : SheetState) → name ≡ a → place ≡ mark → place < length row → states ≡ states_where (λ q. pair_in s to q) → add ≡ onward before (λ q q'. eqb q from && has states q') → v ≡ joined (get_or row place d) add → Entered (set row place v)
-    enter_hit place states d add v same at lt inner adds joins m ltm = ⊎_elim
+    -- the place of the mark
+    pub enter_hit : (place : ℕ) (d add v : SheetState) → name ≡ a → place ≡ mark → place < length row → add ≡ onward before (λ q q'. eqb q from && pair_in s to q') → v ≡ joined (get_or row place d) add → Entered (set row place v)
+    enter_hit place d add v same at lt adds joins m ltm = ⊎_elim
         (λ e.
-        let by_mark : (q q' : ℕ) → q < 8 → q' < 8 → eqb q from && has states q' ≡ by_inner (x ∷ []) s a m q q' = λ q q' _ lt'.
-        ap (λ t. eqb q from && t) (ap (λ y. has y q') inner ∙ masks_are_sets.states (λ r. pair_in s to r) q' lt')
-        ∙ sym (by_this m q q' ∙ ap₂ (λ t u. t && (u && (eqb q from && pair_in s to q'))) (eq-eqb mark m (sym at ∙ sym e)) (eq-eqb name a same)) in
+        let by_mark : (q q' : ℕ) → q < 8 → q' < 8 → eqb q from && pair_in s to q' ≡ by_inner (x ∷ []) s a m q q' = λ q q' _ _.
+        sym (by_this m q q' ∙ ap₂ (λ t u. t && (u && (eqb q from && pair_in s to q'))) (eq-eqb mark m (sym at ∙ sym e)) (eq-eqb name a same)) in
         ap (λ y. get_or (set row place v) y nowhere) e ∙ get_or-set_same row place v nowhere lt ∙ joins
-        ∙ ap₂ joined (get_or_default row place d nowhere lt ∙ ap (λ y. get_or row y nowhere) (sym e)) (adds ∙ onward_same before (λ q q'. eqb q from && has states q') (by_inner (x ∷ []) s a m) by_mark))
+        ∙ ap₂ joined (get_or_default row place d nowhere lt ∙ ap (λ y. get_or row y nowhere) (sym e)) (adds ∙ onward_same before (λ q q'. eqb q from && pair_in s to q') (by_inner (x ∷ []) s a m) by_mark))
         (λ n. get_or-set_other row place m v nowhere n ∙ unchanged m (λ q1 q3. by_this m q1 q3 ∙ ap (λ t. t && (eqb name a && (eqb q1 from && pair_in s to q3))) (ne_eqb mark m (λ e. n (sym e ∙ sym at)))))
         (cases_eq m place)
 
 -- By a return move.
-and_true : (a : Bool) → a && true ≡ a
-and_true true = refl
-and_true false = refl
+-- the move is a return that reads the name
+abbrev pub Returns : Move → ℕ → Type 0
+Returns (Return from name mark to) b = name ≡ b
+Returns x b = ⊥
 
-or_false : (a : Bool) → a || false ≡ a
-or_false true = refl
-or_false false = refl
-
-return_arranged : (x y z m p : Bool) → p && ((x && (y && (m && (z && true)))) || false) ≡ x && (m && (y && (p && z)))
-return_arranged true true z true true = or_false (z && true) ∙ and_true z
-return_arranged true true z true false = refl
-return_arranged true true z false true = refl
-return_arranged true true z false false = refl
-return_arranged true false z true true = refl
-return_arranged true false z true false = refl
-return_arranged true false z false true = refl
-return_arranged true false z false false = refl
-return_arranged false y z m true = refl
-return_arranged false y z m false = refl
-
-moved_front : (p n x z : Bool) → p && (n && (x && z)) ≡ x && (n && (p && z))
-moved_front true true x z = refl
-moved_front true false true z = refl
-moved_front true false false z = refl
-moved_front false true true z = refl
-moved_front false true false z = refl
-moved_front false false true z = refl
-moved_front false false false z = refl
-
-and_false : (a : Bool) → a && false ≡ false
-and_false true = refl
-and_false false = refl
+pub not_return : (x : Move) (b : ℕ) → ((from name mark to : ℕ) → x ≡ Return from name mark to → ⊥) → Returns x b → ⊥
+not_return (Internal from name to) b other returns = returns
+not_return (Call from name to mark) b other returns = returns
+not_return (Return from name mark to) b other returns = other from name mark to refl
+not_return (Pending from name to) b other returns = returns
 
 none_returns : (t : ℕ → Relation) (q1 : ℕ) → some_mark (λ m. some_state (λ q3. t m q1 q3 && false)) ≡ false
-none_returns t q1 = some_same 16 (λ m. some_state (λ q3. t m q1 q3 && false)) (λ m. false) (λ m _. some_same 8 (λ q3. t m q1 q3 && false) (λ q3. false) (λ q3 _. and_false (t m q1 q3)) ∙ some_none 8) ∙ some_none 16
+none_returns t q1 = some_same 16 (λ m. some_state (λ q3. t m q1 q3 && false)) (λ m. false) (λ m _. some_same 8 (λ q3. t m q1 q3 && false) (λ q3. false) (λ q3 _. and-false (t m q1 q3)) ∙ some_none 8) ∙ some_none 16
 
 module _ (t : ℕ → Relation) (b q1 q' : ℕ) where
   by_one_return : (from name mark to : ℕ) → from < 8 → mark < 16 → by_return (Return from name mark to ∷ []) t b q1 q' ≡ eqb name b && (t mark q1 from && eqb q' to)
@@ -132,34 +91,32 @@ module _ (t : ℕ → Relation) (b q1 q' : ℕ) where
       some_same 8
       (λ q3. t m q1 q3 && ((eqb from q3 && (eqb name b && (eqb mark m && (eqb to q' && true)))) || false))
       (λ q3. eqb q3 from && (eqb m mark && (eqb name b && (t m q1 q3 && eqb q' to))))
-      (λ q3 _. return_arranged (eqb from q3) (eqb name b) (eqb to q') (eqb mark m) (t m q1 q3)
-      ∙ ap₂ (λ x z. x && (eqb mark m && (eqb name b && (t m q1 q3 && z)))) (eqb_swap from q3) (eqb_swap to q')
-      ∙ ap (λ y. eqb q3 from && (y && (eqb name b && (t m q1 q3 && eqb q' to)))) (eqb_swap mark m))
+      (λ q3 _. grind (arith, nat_tests))
       ∙ some_point 8 from (λ q3. eqb m mark && (eqb name b && (t m q1 q3 && eqb q' to))) lt)
       ∙ some_point 16 mark (λ m. eqb name b && (t m q1 from && eqb q' to)) ltm
 
-  -- a move that is no return
-  by_no_return : (x : Move) → ((from name mark to : ℕ) → x ≡ Return from name mark to → ⊥) → by_return (x ∷ []) t b q1 q' ≡ false
+  no_return : (x : Move) → in_range 8 x ≡ true → (Returns x b → ⊥) → by_return (x ∷ []) t b q1 q' ≡ false
   unfolding among
-  by_no_return (Internal q a r) other = none_returns t q1
-  by_no_return (Call q a r k) other = none_returns t q1
-  by_no_return (Return q a k r) other = absurd (other q a k r refl)
-  by_no_return (Pending q a r) other = none_returns t q1
+  no_return (Internal from name to) range none = none_returns t q1
+  no_return (Call from name to mark) range none = none_returns t q1
+  no_return (Return from name mark to) range none =
+      let (lt, ltm) = return_below from name mark to range in by_one_return from name mark to lt ltm ∙ ap (λ y. y && (t mark q1 from && eqb q' to)) (ne_eqb name b none)
+  no_return (Pending from name to) range none = none_returns t q1
 
 -- As the code finds them: the move x, the row of what the marks lead to, and the answer r.
 module _ (row : List SheetState) (b : ℕ) (x : Move) (r : SheetState) where
   abbrev Left : Type 0
   Left = StepsOn row r (λ t. by_return (x ∷ []) t b)
 
-  pub leave_else : ((from name mark to : ℕ) → x ≡ Return from name mark to → ⊥) → r ≡ nowhere → Left
-  leave_else other is s t holds = is ∙ sym (onward_same s (by_return (x ∷ []) t b) (λ q q'. false) (λ q q' _ _. by_no_return t b q q' x other) ∙ onward_none s)
+  pub leave_none : in_range 8 x ≡ true → (Returns x b → ⊥) → r ≡ nowhere → Left
+  leave_none range none is s t holds = is ∙ sym (onward_same s (by_return (x ∷ []) t b) (λ q q'. false) (λ q q' _ _. no_return t b q q' x range none) ∙ onward_none s)
 
-  pub leave_return : (from name mark to place : ℕ) (d : SheetState) → x ≡ Return from name mark to → from < 8 → mark < 16 → place ≡ mark → place < length row → r ≡ onward (get_or row place d) (λ q q'. eqb name b && (eqb q from && eqb q' to)) → Left
-  leave_return from name mark to place d move lt ltm at within is s t holds =
+  pub leave_return : (from name mark to place : ℕ) (d : SheetState) → x ≡ Return from name mark to → from < 8 → mark < 16 → place ≡ mark → place < length row → name ≡ b → r ≡ onward (get_or row place d) (λ q q'. eqb q from && eqb q' to) → Left
+  leave_return from name mark to place d move lt ltm at within same is s t holds =
       is
-      ∙ ap (λ u. onward u (λ q q'. eqb name b && (eqb q from && eqb q' to))) (get_or_default row place d nowhere within ∙ ap (λ y. get_or row y nowhere) at ∙ holds mark ltm)
+      ∙ ap₂ (λ u y. onward u (λ q q'. y && (eqb q from && eqb q' to))) (get_or_default row place d nowhere within ∙ ap (λ y. get_or row y nowhere) at ∙ holds mark ltm) (sym (eq-eqb name b same))
       ∙ onward_twice s (t mark) (λ q q'. eqb name b && (eqb q from && eqb q' to))
       ∙ onward_same s (λ q q'. some_state (λ y. t mark q y && (eqb name b && (eqb y from && eqb q' to)))) (by_return (x ∷ []) t b) (λ q q' _ _.
-      some_same 8 (λ y. t mark q y && (eqb name b && (eqb y from && eqb q' to))) (λ y. eqb y from && (eqb name b && (t mark q y && eqb q' to))) (λ y _. moved_front (t mark q y) (eqb name b) (eqb y from) (eqb q' to))
+      some_same 8 (λ y. t mark q y && (eqb name b && (eqb y from && eqb q' to))) (λ y. eqb y from && (eqb name b && (t mark q y && eqb q' to))) (λ y _. grind arith)
       ∙ some_point 8 from (λ y. eqb name b && (t mark q y && eqb q' to)) lt
       ∙ sym (ap (λ y. by_return (y ∷ []) t b q q') move ∙ by_one_return t b q q' from name mark to lt ltm))

@@ -1,6 +1,8 @@
 -- A sheet as a machine: it follows the sets of states that the runs of its automaton can be in.
-use Rattle.std.specs.Prelude.{◌≡◌, ℕ, ◌<◌, Bool, ◌&&◌, List, ◌==◌, bit_or, nat_lt, slice_index_or}
+use Rattle.std.specs.Prelude.{◌≡◌, ℕ, ◌%◌, ◌<◌, Bool, ◌&&◌, List, ◌==◌, bit_or, nat_lt, slice_index_or}
 use Rattle.nested.specs.Automata.{Automaton}
+use Rattle.nested.specs.declared.letter.Letter.{Letter}
+use Rattle.nested.specs.declared.letter.Letter.TheVariants as letter
 use Rattle.sheets.specs.Masks.{pair_in, pairs_where, some_mark, some_state, state_in, states_where}
 use Rattle.sheets.specs.Moves.{Description, among}
 use Rattle.sheets.specs.declared.moves.Move.{Move}
@@ -40,6 +42,12 @@ module _ (ms : List Move) where
   abbrev pub by_call : ℕ → Relation
   by_call a q q' = some_mark (λ m. among ms (Call q a q' m))
 
+  -- By a letter; a return is one with no open call.
+  abbrev pub by_letter : Letter → Relation
+  by_letter (letter.Internal a) = by_internal (a % 16)
+  by_letter (letter.Call a) = by_call (a % 16)
+  by_letter (letter.Return b) = by_pending (b % 16)
+
   -- All (q1, q3) for which a call move (q1, a, q2, m) and a pair (q2, q3) in S exist.
   abbrev pub by_inner : ℕ → ℕ → ℕ → Relation
   by_inner s a m q1 q3 = some_state (λ q2. among ms (Call q1 a q2 m) && pair_in s q2 q3)
@@ -72,6 +80,3 @@ sheet_automaton d = record {
   pending = λ s b. onward s (by_pending d.moves b);
   accepts = λ s. some_state (λ q. state_in s.states q && state_in d.accepting q);
 }
-
-abbrev pub same_state : SheetState → SheetState → Bool
-same_state s u = s.pairs == u.pairs && s.states == u.states

@@ -5,5 +5,6 @@ pub mod machine;
 pub mod moves;
 pub mod sheet;
 pub mod state;
+mod step;
 mod steps;
 pub mod word;

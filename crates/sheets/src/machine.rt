@@ -4,11 +4,12 @@ ghost use Rattle.sheets.specs.Masks.{MasksAreSets, pairs_where};
 ghost use Rattle.sheets.specs.Moves.{Description, InRange};
 ghost use Rattle.sheets.specs.Runs.{AcceptsByRuns};
 ghost use Rattle.sheets.specs.Sheets.{described};
-ghost use Rattle.sheets.specs.Steps.{identity, same_state, sheet_automaton};
-ghost use Rattle.std.proofs.Common.{rules, arith};
+ghost use Rattle.sheets.specs.Steps.{identity, sheet_automaton};
+ghost use Rattle.std.proofs.Common.{rules};
 
 use crate::sheet::Sheet;
 use crate::state::SheetState;
+use nested::letter::Letter;
 use nested::machine::Machine;
 use std::alloc::Global;
 
@@ -43,11 +44,9 @@ impl Machine for Sheet {
 
     ghost meaning = { λ s. sheet_automaton (described s) };
 
-    ghost equal = { λ _ s u. same_state s u };
+    ghost equal_only = { Prim.search rules };
 
-    ghost equal_only = { first_of (Prim.search rules, Prim.grind (arith, Self.row.coded.inj)) };
-
-    ghost equal_itself = { first_of (Prim.search rules, Prim.grind (arith, Self.row.coded.inj)) };
+    ghost equal_itself = { Prim.search rules };
 
     fn start(&self) -> SheetState {
         SheetState {
@@ -57,13 +56,13 @@ impl Machine for Sheet {
     }
 
     fn internal(&self, state: SheetState, name: u8) -> SheetState {
-        self.along_internal(name, state)
+        self.read(Letter::Internal(name), state)
     }
 
     fn call(&self, state: SheetState, name: u8) -> SheetState {
         SheetState {
             pairs: self.identity(),
-            states: self.along_call(name, state).states,
+            states: self.read(Letter::Call(name), state).states,
         }
     }
 
@@ -72,14 +71,10 @@ impl Machine for Sheet {
     }
 
     fn pending(&self, state: SheetState, name: u8) -> SheetState {
-        self.along_pending(name, state)
+        self.read(Letter::Return(name), state)
     }
 
     fn accepts(&self, state: SheetState) -> bool {
         state.states & self.accepting != 0
-    }
-
-    fn same(&self, left: SheetState, right: SheetState) -> bool {
-        left == right
     }
 }

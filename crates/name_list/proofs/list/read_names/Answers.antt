@@ -1,20 +1,14 @@
-use Rattle.std.proofs.Common.{◌≡◌, [], drop, Some, sym, refl, ap, ◌∙◌, subst, subst₂, inr, arith}
+use Rattle.std.proofs.Common.{◌≡◌, [], drop, Some, sym, ap, ◌∙◌, subst, inr, arith}
 use Rattle.std.proofs.lemmas.Option.{MatchOption-at_none, MatchOption-at_some}
 use Rattle.std.proofs.lemmas.Result.{err_from_is_err_and}
 use Rattle.std.proofs.lemmas.Bool.{eqb-true, eqb-false}
+use Rattle.fields.specs.Faults.{told_at}
 use Rattle.fields.specs.Fields.{Cut}
 use Rattle.fields.specs.Parts.{Stands}
 use Rattle.name_list.specs.Names.{names_of}
 use Rattle.name_list.proofs.Held.{names_length}
-use Rattle.name_list.proofs.Loading.{ReadSoFar, lists_all, none_cut, none_fault, none_missing, so_far_more, so_far_none}
+use Rattle.name_list.proofs.Loading.{ReadSoFar, lists_all, none_cut, none_fault, none_missing, so_far_more}
 use Rattle.name_list.proofs.list.read_names.Goals as goal
-
-pub loop-names-init : goal.loop-names-init
-loop-names-init c = (
-  c.new-fields.ensures.file,
-  c.new-fields.ensures.bytes,
-  subst₂ (ReadSoFar c.args.bytes.now) (sym c.new-fields.ensures.place) (sym (ap (mathlib.Core.List.map Rattle.std.specs.Vec.vec_items) c.new-names.ensures.items)) (so_far_none c.args.bytes.now),
-)
 
 pub returns-in_err-field : goal.returns-in_err-field
 returns-in_err-field c =
@@ -46,7 +40,7 @@ returns-then-is_empty c =
     let end = MatchOption-at_none _ _ c.in_default.is c.in_ok-field.ensures.field in
     let at_end = subst (λ b. drop c.loop-names.fields.place b ≡ []) c.loop-names.invariant.1 end.0 in
     let none = names_length c.loop-names.names ∙ eqb-true _ 0 (sym c.if-is_empty.ensures) in
-    inr (none_missing c.args.bytes.now c.loop-names.fields.place (names_of c.loop-names.names) c.loop-names.invariant.2 at_end _ none refl)
+    inr (none_missing c.args.bytes.now c.loop-names.fields.place (names_of c.loop-names.names) c.loop-names.invariant.2 at_end _ none (ap (λ a. Some (told_at 16 a)) c.at.ensures))
 
 pub returns : goal.returns
 returns c =
@@ -54,6 +48,5 @@ returns c =
     let at_end = subst (λ b. drop c.loop-names.fields.place b ≡ []) c.loop-names.invariant.1 end.0 in
     let long = names_length c.loop-names.names in
     let some = eqb-false _ 0 (sym c.if-is_empty.ensures) in
-    let few = c.loop-names.invariant.2.1 in
     let all = lists_all c.args.bytes.now c.loop-names.fields.place (names_of c.loop-names.names) c.loop-names.invariant.2 at_end (omega arith) in
-    (all.0, omega arith, all.1)
+    all

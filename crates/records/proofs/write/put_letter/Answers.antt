@@ -1,20 +1,23 @@
-use Rattle.std.proofs.Common.{arith}
-use Rattle.name_list.specs.Names.{names_of}
-use Rattle.records.proofs.Writing.{letter_put, no_room, not_a_letter, unlisted}
+use Rattle.std.proofs.Common.{◌∙◌, arith, rules}
+use Rattle.records.proofs.Writing.{letter_put, letter_read, no_room, not_a_letter, unlisted}
 use Rattle.records.proofs.write.put_letter.Goals as goal
 
-pub returns-then-code-gt47 : goal.returns-then-code-gt47
-returns-then-code-gt47 c = not_a_letter (names_of c.args.names.now.names) c.args.index c.args.code c.args.used c.args.out.now c.if-code-gt47.true
+pub returns-in_default-clause-written : goal.returns-in_default-clause-written
+returns-in_default-clause-written c =
+    not_a_letter c.args.names.now c.args.index c.args.code c.args.used c.args.out.now _ c.at-at.ensures (search rules)
 
-pub returns-in_default : goal.returns-in_default
-returns-in_default c =
-    let past = c.in_default.ensures in
-    unlisted (names_of c.args.names.now.names) c.args.index c.args.code c.args.used c.args.out.now c.if-code-gt47.false (omega arith)
+pub returns-in_default-name-clause-written : goal.returns-in_default-name-clause-written
+returns-in_default-name-clause-written c =
+    let number = c.from.ensures ∙ c.tag_and_number-tag.ensures.number in
+    let past = c.in_default-name.ensures.name in
+    unlisted c.args.names.now c.args.index c.args.code c.args.used c.args.out.now _ c.at-at.ensures c.in-Ok.letter (letter_read c.args.code _ c.in-Ok.letter c.try_from.ensures.value c.in-Ok.is) (omega arith)
 
-pub returns-then-end-min : goal.returns-then-end-min
-returns-then-end-min c =
-    no_room (names_of c.args.names.now.names) c.args.index c.args.code c.args.used c.args.out.now c.if-code-gt47.false c.in-Some.name.now c.from.result c.from.ensures c.in-Some.ensures (omega arith)
+pub returns-then-end-min-clause-written : goal.returns-then-end-min-clause-written
+returns-then-end-min-clause-written c =
+    let number = c.from.ensures ∙ c.tag_and_number-tag.ensures.number in
+    no_room c.args.names.now c.args.index c.args.code c.args.used c.args.out.now _ c.at-at.ensures c.in-Ok.letter (letter_read c.args.code _ c.in-Ok.letter c.try_from.ensures.value c.in-Ok.is) c.in-Some.name.now (rw number at c.in-Some.ensures.name) (omega arith)
 
-pub returns : goal.returns
-returns c =
-    letter_put (names_of c.args.names.now.names) c.args.index c.args.code c.args.used c.args.out.now c.if-code-gt47.false c.in-Some.name.now c.from.result c.from.ensures c.in-Some.ensures c.put_field.new.out (omega arith) c.put_field.ensures
+pub returns-clause-written : goal.returns-clause-written
+returns-clause-written c =
+    let number = c.from.ensures ∙ c.tag_and_number-tag.ensures.number in
+    letter_put c.args.names.now c.args.index c.args.code c.args.used c.args.out.now c.in-Ok.letter (letter_read c.args.code _ c.in-Ok.letter c.try_from.ensures.value c.in-Ok.is) c.in-Some.name.now (rw number at c.in-Some.ensures.name) c.put_field.new.out (omega arith) (rw c.tag_and_number-tag.ensures.tag at c.put_field.ensures)

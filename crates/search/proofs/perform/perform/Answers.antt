@@ -10,7 +10,7 @@ use Rattle.search.proofs.perform.perform.Goals as goal
 pub loop-call-preserved : goal.loop-call-preserved
 loop-call-preserved g c =
     let A = g.M.Machine.meaning c.args.question.now in
-    let eq = g.M.Machine.equal c.args.question.now in
+    let eq : g.row.M-State.Denot → g.row.M-State.Denot → _ = g.M.State.PartialEq.eq in
     let all = into_iter_items c.into_iter-call-iterator.result in
     let loop = c.loop-call in
     let (_, _, room, leads) = loop.invariant in
@@ -18,20 +18,20 @@ loop-call-preserved g c =
       tt,
       tt,
       omega arith,
-      leads_more A eq all (vec_items loop.answers) (kept_board loop.search.at loop.rows) (into_iter_items loop.call-iterator) leads
-          c.in-Some.call (into_iter_items c.next.new.self) next c.answer.result (kept_board c.answer.new.search.at c.answer.new.rows) c.answer.ensures (vec_items c.push_reserved.new.self) c.push_reserved.ensures.items,
+      leads_more A eq all (vec_items loop.answers) (kept_board loop.kept) (into_iter_items loop.call-iterator) leads
+          c.in-Some.call (into_iter_items c.next.new.self) next c.answer.result (kept_board c.answer.new.self) c.answer.ensures (vec_items c.push_reserved.new.self) c.push_reserved.ensures.items,
     )
 
 pub returns : goal.returns
 returns g c =
     let question = c.args.question.now in
     let A = g.M.Machine.meaning question in
-    let eq = g.M.Machine.equal question in
-    let law : Lawful eq = record { only = g.met.M.Machine.equal_only question; itself = g.met.M.Machine.equal_itself question } in
+    let eq : g.row.M-State.Denot → g.row.M-State.Denot → _ = g.M.State.PartialEq.eq in
+    let law : Lawful eq = record { only = g.met.M.Machine.equal_only; itself = g.met.M.Machine.equal_itself } in
     let all = into_iter_items c.into_iter-call-iterator.result in
     let loop = c.loop-call in
     let left = into_iter_items loop.call-iterator in
     let (_, _, _, leads) = loop.invariant in
     let (none, _) = c.in-None.ensures.steps in
     subst (λ calls. Law A at_first calls (vec_items loop.answers)) c.into_iter-call-iterator.ensures.into_iter_gives.0
-    (leads_law A eq all (vec_items loop.answers) (kept_board loop.search.at loop.rows) left leads law (nil_from_length left (sym loop.call-iterator.rest.ok.0 ∙ none)))
+    (leads_law A eq all (vec_items loop.answers) (kept_board loop.kept) left leads law (nil_from_length left (sym loop.call-iterator.rest.ok.0 ∙ none)))

@@ -1,9 +1,6 @@
-use Rattle.std.proofs.Common.{length, rules}
+use Rattle.std.proofs.Common.{length}
 use Rattle.sheets.proofs.Checked.{followed_by_runs}
 use Rattle.sheets.proofs.word.follow_sheet.Goals as goal
-
-pub follow_word-requires : goal.follow_word-requires
-follow_word-requires c = search rules
 
 pub returns : goal.returns
 returns c = record {

@@ -1,10 +1,7 @@
-use Rattle.std.proofs.Common.{map, vec_items, ap, arith}
+use Rattle.std.proofs.Common.{map, vec_items, ap}
 use Rattle.name_list.specs.Names.{listable, listable_behind}
 use Rattle.name_list.proofs.list.NameList.new.Goals as goal
 
 pub invariant_of-result : goal.invariant_of-result
 unfolding listable_behind
-invariant_of-result c = let n = c.new.ensures.len in record {
-  few = omega arith;
-  listable = ap (λ ns. listable (map vec_items ns)) c.new.ensures.items;
-}
+invariant_of-result c = ap (λ ns. listable (map vec_items ns)) c.new.ensures.items

@@ -1,18 +1,10 @@
-use Rattle.std.proofs.Common.{Ok, Err, rules}
+use Rattle.std.proofs.Common.{Ok, rules}
 use Rattle.search.specs.Boards.{board}
-use Rattle.search.specs.Calls.{GivesWord}
-use Rattle.search.specs.declared.unwritten.Unwritten.TheVariants.{TooLong}
 use Rattle.search.proofs.Promising.{hands_truly}
 use Rattle.search.proofs.search.Search.word.Goals as goal
 
-pub returns-in-Ok : goal.returns-in-Ok
-returns-in-Ok g c =
-    let b = board c.args.self.now.at c.args.items.now c.args.makings.now in
-    let given : GivesWord b c.args.out.now c.write_word.new.out (Ok c.in-Ok.n) = search rules in
-    record { answer = given; promise = hands_truly b c.args.out.now c.write_word.new.out (Ok c.in-Ok.n) given }
+pub returns-in_err-write_word-clause-promise : goal.returns-in_err-write_word-clause-promise
+returns-in_err-write_word-clause-promise g c = hands_truly (board c.args.self.now.at c.args.items.now c.args.makings.now) c.args.out.now c.write_word.new.out c.from_residual.result (search rules)
 
-pub returns-in-Err : goal.returns-in-Err
-returns-in-Err g c =
-    let b = board c.args.self.now.at c.args.items.now c.args.makings.now in
-    let given : GivesWord b c.args.out.now c.write_word.new.out (Err (TooLong c.in-Err.n)) = search rules in
-    record { answer = given; promise = hands_truly b c.args.out.now c.write_word.new.out (Err (TooLong c.in-Err.n)) given }
+pub returns-clause-promise : goal.returns-clause-promise
+returns-clause-promise g c = hands_truly (board c.args.self.now.at c.args.items.now c.args.makings.now) c.args.out.now c.write_word.new.out (Ok c.in_ok-write_word.field-0) (search rules)

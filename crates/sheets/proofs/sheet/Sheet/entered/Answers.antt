@@ -2,15 +2,16 @@ use Rattle.std.proofs.Common.{◌%◌, get_or, replicate, vec_items, sym, refl, 
 use Rattle.std.proofs.lemmas.List.{get_or-replicate}
 use Rattle.sheets.specs.Steps.{by_inner, nowhere}
 use Rattle.sheets.proofs.Loops.{additive_inner, gone_all, gone_more, gone_none, move_in_range}
+use Rattle.sheets.proofs.Onward.{same_sets}
 use Rattle.sheets.proofs.sheet.Sheet.entered.Goals as goal
 
 pub loop-step-init : goal.loop-step-init
 loop-step-init c m lt =
-    ap (λ x. get_or (replicate 16 x) m nowhere) c.nowhere-row.ensures ∙ get_or-replicate 16 m nowhere nowhere lt
+    ap (λ x. get_or (replicate 16 x) m nowhere) (same_sets c.default-row.result nowhere c.default-row.ensures.0 c.default-row.ensures.1) ∙ get_or-replicate 16 m nowhere nowhere lt
     ∙ sym (gone_none (λ ms. by_inner ms c.args.state.pairs (c.args.opened % 16) m) (additive_inner c.args.state.pairs (c.args.opened % 16) m) c.args.before)
 
-pub enter-requires : goal.enter-requires
-enter-requires c = move_in_range c.args.self.now.states (vec_items c.args.self.now.moves) c.deref-step-items.result.now c.loop-step.step-index _ c.deref-step-items.ensures.value c.args.self.now.moves_in c.args.self.now.few_states c.loop-step-test.true
+pub invariant_of-enter : goal.invariant_of-enter
+invariant_of-enter c = record { in_range = move_in_range c.args.self.now c.deref-step-items.result.now c.loop-step.step-index _ c.deref-step-items.ensures.value c.loop-step-test.true }
 
 pub loop-step-preserved : goal.loop-step-preserved
 loop-step-preserved c m lt =

@@ -1,16 +1,7 @@
-use Rattle.std.proofs.Common.{◌%◌, vec_items, sym, ◌∙◌}
+use Rattle.std.proofs.Common.{◌%◌, rules}
 use Rattle.sheets.specs.Steps.{by_return}
-use Rattle.sheets.proofs.Loops.{additive_return, gone_all, gone_more, gone_none, move_in_range}
+use Rattle.sheets.proofs.Loops.{additive_return}
 use Rattle.sheets.proofs.sheet.Sheet.left.Goals as goal
 
-pub loop-step-init : goal.loop-step-init
-loop-step-init c s t holds = c.nowhere-reached.ensures ∙ sym (gone_none (λ ms. by_return ms t (c.args.name % 16)) (additive_return t (c.args.name % 16)) s)
-
-pub leave-requires : goal.leave-requires
-leave-requires c = move_in_range c.args.self.now.states (vec_items c.args.self.now.moves) c.deref-step-items.result.now c.loop-step.step-index _ c.deref-step-items.ensures.value c.args.self.now.moves_in c.args.self.now.few_states c.loop-step-test.true
-
-pub loop-step-preserved : goal.loop-step-preserved
-loop-step-preserved c s t holds = gone_more (λ ms. by_return ms t (c.args.name % 16)) (additive_return t (c.args.name % 16)) s (vec_items c.args.self.now.moves) c.deref-step-items.result.now c.deref-step-items.ensures.value c.loop-step.step-index _ c.loop-step.reached c.leave.result _ c.loop-step-test.true (c.loop-step.invariant s t holds) (c.leave.ensures s t holds) c.joined-reached.ensures
-
 pub returns : goal.returns
-returns c s t holds = gone_all (λ ms. by_return ms t (c.args.name % 16)) (additive_return t (c.args.name % 16)) s (vec_items c.args.self.now.moves) c.deref-step-items.result.now c.deref-step-items.ensures.value c.loop-step.step-index c.loop-step.reached c.loop-step-test.false (c.loop-step.invariant s t holds)
+returns c s t holds = c.along.ensures s (λ ms. by_return ms t (c.args.name % 16)) (additive_return t (c.args.name % 16)) (λ m x adds. search rules)

@@ -1,4 +1,0 @@
-use Rattle.items.proofs.words.+length_within.Given as goal
-
-abbrev pub decreases-length_within : goal.decreases-length_within
-decreases-length_within l = l.number

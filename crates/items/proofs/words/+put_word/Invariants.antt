@@ -1,4 +1,0 @@
-use Rattle.items.proofs.words.+put_word.Given as goal
-
-abbrev pub decreases-put_word : goal.decreases-put_word
-decreases-put_word l = l.number
