@@ -7,12 +7,9 @@
 use anyhow::anyhow;
 use fields::fault::Fault;
 use name_list::list::NameList;
-use records::read::read_record;
+use records::read::{MOST_LETTERS, read_record};
 use std::time::Instant;
 use std::{env, fs};
-
-// The most letters that a record has: each takes 4 bytes or more of 65,535.
-const MOST_LETTERS: usize = 16383;
 
 fn load_names(path: &str, rt: &HostRuntime) -> anyhow::Result<NameList> {
     let bytes = fs::read(rt, path)?;

@@ -1,3 +1,4 @@
+pub mod Cases
 pub mod Fronts
 pub mod Here
 pub mod Orders

@@ -1,6 +1,6 @@
 // What can be wrong with a file.
 ghost use Rattle.std.specs.Prelude.{◌≡◌, Some};
-ghost use Rattle.fields.specs.Faults.{told, told_at};
+ghost use Rattle.fields.specs.Faults.{told};
 ghost use Rattle.fields.specs.Texts.{fault_line, fault_text, file_text};
 ghost use Rattle.fields.specs.declared.fault.Fault.TheVariants.{Memory};
 
@@ -9,7 +9,7 @@ use std::error::Error;
 use std::fmt;
 
 /// The kinds of files.
-#[derive(Clone, Copy, PartialEq, Debug)]
+#[derive(Clone, Copy, PartialEq, Eq, Hash, Debug)]
 pub enum File {
     Names,
     Record,
@@ -19,16 +19,16 @@ impl fmt::Display for File {
     ghost output = { λ f. Some (file_text f) };
 
     fn fmt<W: fmt::Write>(&self, f: &mut fmt::Formatter<W>) -> fmt::Result {
-        match self {
-            File::Names => f.write_str("names"),
-            File::Record => f.write_str("record"),
-        }
+        f.write_str(match self {
+            File::Names => "names",
+            File::Record => "record",
+        })
     }
 }
 
 /// Where a fault is: its file, and the offset in it of the field that has the fault. The place of a fault of a list of letters to
 /// be written is the letter's index.
-#[derive(Clone, Copy, PartialEq, Debug)]
+#[derive(Clone, Copy, PartialEq, Eq, Hash, Debug)]
 pub struct At {
     pub file: File,
     pub place: usize,
@@ -44,7 +44,7 @@ impl File {
 }
 
 /// What is wrong with a file, or with a list of letters to be written to one.
-#[derive(Clone, Copy, PartialEq, Debug)]
+#[derive(Clone, Copy, PartialEq, Eq, Hash, Debug)]
 pub enum Fault {
     /// A letter code is above 47.
     NotALetter(At),
@@ -72,22 +72,13 @@ pub enum Fault {
     Memory,
 }
 
+// The number is no kind of fault of its own: it is the one under which the fault is listed, as every answer is.
 /// What a fault tells: its number, the file that it is in, and its place there.
-#[derive(Clone, Copy, PartialEq, Debug)]
+#[derive(Clone, Copy, PartialEq, Eq, Hash, Debug)]
 pub struct Told {
     pub number: u8,
     pub file: File,
     pub place: usize,
-}
-
-fn tell(number: u8, at: At) -> Option<Told>
-    ensures { result ≡ Some (told_at number at) }
-{
-    Some(Told {
-        number,
-        file: at.file,
-        place: at.place,
-    })
 }
 
 impl Fault {
@@ -95,20 +86,25 @@ impl Fault {
     pub fn told(self) -> Option<Told>
         ensures { result ≡ told self }
     {
-        match self {
-            Fault::NotALetter(at) => tell(1, at),
-            Fault::Cut(at) => tell(10, at),
-            Fault::Tag(at) => tell(11, at),
-            Fault::Length(at) => tell(12, at),
-            Fault::Byte(at) => tell(13, at),
-            Fault::Missing(at) => tell(16, at),
-            Fault::Repeated(at) => tell(17, at),
-            Fault::TooMany(at) => tell(18, at),
-            Fault::Unlisted(at) => tell(19, at),
-            Fault::TooLong(at) => tell(20, at),
-            Fault::NoRoom(at) => tell(21, at),
-            Fault::Memory => None,
-        }
+        let (number, At { file, place }) = match self {
+            Fault::NotALetter(at) => (1, at),
+            Fault::Cut(at) => (10, at),
+            Fault::Tag(at) => (11, at),
+            Fault::Length(at) => (12, at),
+            Fault::Byte(at) => (13, at),
+            Fault::Missing(at) => (16, at),
+            Fault::Repeated(at) => (17, at),
+            Fault::TooMany(at) => (18, at),
+            Fault::Unlisted(at) => (19, at),
+            Fault::TooLong(at) => (20, at),
+            Fault::NoRoom(at) => (21, at),
+            Fault::Memory => return None,
+        };
+        Some(Told {
+            number,
+            file,
+            place,
+        })
     }
 
     // What is wrong, in words.

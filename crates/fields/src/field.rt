@@ -3,21 +3,21 @@ ghost use Rattle.std.specs.Prelude.{◌≡◌, false};
 ghost use Rattle.fields.specs.Tags.{known_tag};
 
 /// A part of a file that holds a field's contents, and the offset of the field's tag.
-#[derive(Clone, Copy)]
+#[derive(Clone, Copy, PartialEq, Eq, Hash, Debug)]
 pub struct Part<'a> {
     pub place: usize,
     pub contents: &'a [u8],
 }
 
 /// A tag that no case of `Field` has for its own. It is a struct, since a case of an enum cannot say that.
-#[derive(Clone, Copy)]
+#[derive(Clone, Copy, PartialEq, Eq, Hash, Debug)]
 pub struct OtherTag {
     pub number: u8,
     pub ghost other: { known_tag number ≡ false },
 }
 
 /// A field, by its tag: 1 a call, 2 a return, 3 an internal letter, 16 a name of a name list. Any other tag comes with its number.
-#[derive(Clone, Copy)]
+#[derive(Clone, Copy, PartialEq, Eq, Hash, Debug)]
 pub enum Field<'a> {
     Call(Part<'a>),
     Return(Part<'a>),
@@ -29,11 +29,13 @@ pub enum Field<'a> {
 impl<'a> Field<'a> {
     ghost use Rattle.std.specs.Prelude.{◌≡◌};
     ghost use Rattle.fields.specs.Parts.{part_of, tag_of};
+    ghost use Rattle.fields.specs.declared.field.Field.{Field};
 
-    /// The field with this tag and this part.
+    /// The only field with this tag and this part.
     pub fn with_tag(tag: u8, part: Part<'a>) -> Field<'a>
         ensures tag { tag_of result ≡ tag }
         ensures part { part_of result ≡ part.entry }
+        ensures only { (f : Field) → tag_of f ≡ tag → part_of f ≡ part.entry → f ≡ result }
     {
         match tag {
             1 => Field::Call(part),
@@ -49,11 +51,11 @@ impl<'a> Field<'a> {
         ensures { result ≡ part_of self.entry }
     {
         match self {
-            Field::Call(part) => part,
-            Field::Return(part) => part,
-            Field::Internal(part) => part,
-            Field::Name(part) => part,
-            Field::Other(_, part) => part,
+            Field::Call(part)
+            | Field::Return(part)
+            | Field::Internal(part)
+            | Field::Name(part)
+            | Field::Other(_, part) => part,
         }
     }
 }

@@ -8,7 +8,7 @@ use crate::fault::{Fault, File};
 use crate::field::{Field, Part};
 
 /// The fields of a file, from its start to its end.
-#[derive(Drop)]
+#[derive(Drop, Debug)]
 pub struct Fields<'a> {
     file: File,
     bytes: &'a [u8],

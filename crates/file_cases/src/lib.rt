@@ -25,11 +25,11 @@ mod tests {
             .map(|told| (told.number, told.file, told.place))
     }
 
-    // The bytes of a file, and of another behind them.
-    fn joined(front: &[u8], back: &[u8], heap: Global) -> Result<Vec<u8>, AllocError> {
-        let mut bytes = Vec::from_slice(heap, front)?;
-        bytes.extend_from_slice(back)?;
-        Ok(bytes)
+    // The list that a file of names loads to.
+    fn list_of(bytes: &[u8], heap: Global) -> Result<NameList, Fault> {
+        let mut list = NameList::new(heap);
+        list.load(bytes, heap)?;
+        Ok(list)
     }
 
     // Name lists with a fault, alone or behind a name list, and the fault's number and place.
@@ -125,8 +125,8 @@ mod tests {
     ) -> Result<(), Fail> {
         let place = usize::from(place);
         refuses(rt, list, bytes, number, place, heap);
-        let behind = joined(b"\x10\x00\x03one", bytes, heap)?;
-        refuses(rt, list, behind.as_slice(), number, 6 + place, heap);
+        let behind = [&b"\x10\x00\x03one"[..], bytes].concat(heap)?;
+        refuses(rt, list, &behind, number, 6 + place, heap);
         Ok(())
     }
 
@@ -157,13 +157,13 @@ mod tests {
             refuses_twice(&rt, &mut list, bytes, number, place, heap)?;
         }
         for (bytes, number) in SEVENTEENTH {
-            let behind = joined(SIXTEEN, bytes, heap)?;
-            refuses(&rt, &mut list, behind.as_slice(), number, 64, heap);
+            let behind = [SIXTEEN, bytes].concat(heap)?;
+            refuses(&rt, &mut list, &behind, number, 64, heap);
         }
         refuses(
             &rt,
             &mut list,
-            joined(b"\x10\x01\x01", &[b'a'; 257], heap)?.as_slice(),
+            &[&b"\x10\x01\x01"[..], &[b'a'; 257][..]].concat(heap)?,
             12,
             0,
             heap,
@@ -334,23 +334,22 @@ mod tests {
         heap: Global,
     ) -> Result<(), Fail> {
         let mut codes = vec![in heap; 255u8; left.len()]?;
-        let read = read_record(names, bytes, codes.as_mut_slice());
-        comes_to(rt, bytes, read, outcome, codes.as_slice(), left);
+        let read = read_record(names, bytes, &mut codes);
+        comes_to(rt, bytes, read, outcome, &codes, left);
         Ok(())
     }
 
     #[test]
     fn records_read(rt: HostRuntime) -> Result<(), Fail> {
         let heap = rt.alloc();
-        let mut names = NameList::new(heap);
-        names.load(NAMES, heap)?;
+        let names = list_of(NAMES, heap)?;
         for (bytes, number) in BAD_RECORDS {
             reads(&rt, &names, bytes, Err((number, 0)), &[255, 255, 255], heap)?;
-            let behind = joined(b"\x01\x00\x05visit\x02\x00\x04pass", bytes, heap)?;
+            let behind = [&b"\x01\x00\x05visit\x02\x00\x04pass"[..], bytes].concat(heap)?;
             reads(
                 &rt,
                 &names,
-                behind.as_slice(),
+                &behind,
                 Err((number, 15)),
                 &[0, 17, 255, 255],
                 heap,
@@ -365,7 +364,7 @@ mod tests {
         reads(
             &rt,
             &names,
-            joined(b"\x01\x01\x05", &[b'a'; 261], heap)?.as_slice(),
+            &[&b"\x01\x01\x05"[..], &[b'a'; 261][..]].concat(heap)?,
             Err((12, 0)),
             &[255],
             heap,
@@ -458,8 +457,8 @@ mod tests {
         heap: Global,
     ) -> Result<(), Fail> {
         let mut out = vec![in heap; 255u8; left.len()]?;
-        let written = write_record(names, codes, out.as_mut_slice());
-        comes_to(rt, codes, written, outcome, out.as_slice(), left);
+        let written = write_record(names, codes, &mut out);
+        comes_to(rt, codes, written, outcome, &out, left);
         Ok(())
     }
 
@@ -488,59 +487,53 @@ mod tests {
 
     // Many of one byte, and others behind them.
     fn many(byte: u8, count: usize, back: &[u8], heap: Global) -> Result<Vec<u8>, AllocError> {
-        let mut bytes = vec![in heap; byte; count]?;
-        bytes.extend_from_slice(back)?;
-        Ok(bytes)
+        let bytes = vec![in heap; byte; count]?;
+        [bytes.as_slice(), back].concat(heap)
     }
 
     // A record of 8,191 calls of `visit`, which has 65,528 bytes, and others behind them.
     fn visits(back: &[u8], heap: Global) -> Result<Vec<u8>, AllocError> {
-        let mut bytes = Vec::new(heap);
-        for _ in 0..8191 {
-            bytes.extend_from_slice(b"\x01\x00\x05visit")?;
-        }
-        bytes.extend_from_slice(back)?;
-        Ok(bytes)
+        let visits = b"\x01\x00\x05visit".repeat(heap, 8191)?;
+        [visits.as_slice(), back].concat(heap)
     }
 
     #[test]
     fn long_records_read(rt: HostRuntime) -> Result<(), Fail> {
         let heap = rt.alloc();
-        let mut names = NameList::new(heap);
-        names.load(NAMES, heap)?;
+        let names = list_of(NAMES, heap)?;
         let longest = visits(b"\x02\x00\x04pass", heap)?;
         assert_eq!(rt; longest.len(), 65535);
         reads(
             &rt,
             &names,
-            longest.as_slice(),
+            &longest,
             Ok(8192),
-            many(0, 8191, &[17], heap)?.as_slice(),
+            &many(0, 8191, &[17], heap)?,
             heap,
         )?;
         reads(
             &rt,
             &names,
-            longest.as_slice(),
+            &longest,
             Ok(8192),
-            many(0, 8191, &[17, 255], heap)?.as_slice(),
+            &many(0, 8191, &[17, 255], heap)?,
             heap,
         )?;
         reads(
             &rt,
             &names,
-            longest.as_slice(),
+            &longest,
             Err((21, 65528)),
-            many(0, 8191, &[], heap)?.as_slice(),
+            &many(0, 8191, &[], heap)?,
             heap,
         )?;
         let cut = visits(b"\x02\x00\x05visi", heap)?;
         reads(
             &rt,
             &names,
-            cut.as_slice(),
+            &cut,
             Err((10, 65528)),
-            many(0, 8191, &[255], heap)?.as_slice(),
+            &many(0, 8191, &[255], heap)?,
             heap,
         )?;
         let longer = visits(b"\x02\x00\x05visit", heap)?;
@@ -548,62 +541,33 @@ mod tests {
         reads(
             &rt,
             &names,
-            longer.as_slice(),
+            &longer,
             Err((20, 0)),
-            many(255, 8192, &[], heap)?.as_slice(),
+            &many(255, 8192, &[], heap)?,
             heap,
         )?;
-        reads(&rt, &names, longer.as_slice(), Err((20, 0)), &[], heap)?;
+        reads(&rt, &names, &longer, Err((20, 0)), &[], heap)?;
         let bad = many(0, 65536, &[], heap)?;
-        reads(&rt, &names, bad.as_slice(), Err((20, 0)), &[255], heap)
+        reads(&rt, &names, &bad, Err((20, 0)), &[255], heap)
     }
 
     #[test]
     fn long_records_written(rt: HostRuntime) -> Result<(), Fail> {
         let heap = rt.alloc();
-        let mut names = NameList::new(heap);
-        names.load(NAMES, heap)?;
+        let names = list_of(NAMES, heap)?;
         let longest = visits(b"\x02\x00\x04pass", heap)?;
         let codes = many(0, 8191, &[17], heap)?;
-        writes(
-            &rt,
-            &names,
-            codes.as_slice(),
-            Ok(65535),
-            longest.as_slice(),
-            heap,
-        )?;
+        writes(&rt, &names, &codes, Ok(65535), &longest, heap)?;
         let kept = visits(
             b"\x02\x00\x04pass\xff\xff\xff\xff\xff\xff\xff\xff\xff",
             heap,
         )?;
-        writes(
-            &rt,
-            &names,
-            codes.as_slice(),
-            Ok(65535),
-            kept.as_slice(),
-            heap,
-        )?;
+        writes(&rt, &names, &codes, Ok(65535), &kept, heap)?;
         let more = many(0, 8191, &[17, 32], heap)?;
-        writes(
-            &rt,
-            &names,
-            more.as_slice(),
-            Err((21, 8192)),
-            kept.as_slice(),
-            heap,
-        )?;
+        writes(&rt, &names, &more, Err((21, 8192)), &kept, heap)?;
         let one_more = many(0, 8191, &[16], heap)?;
         let short = visits(b"\xff\xff\xff\xff\xff\xff\xff\xff\xff", heap)?;
-        writes(
-            &rt,
-            &names,
-            one_more.as_slice(),
-            Err((21, 8191)),
-            short.as_slice(),
-            heap,
-        )
+        writes(&rt, &names, &one_more, Err((21, 8191)), &short, heap)
     }
 
     // Letters, written and read back, and the record that was written, read and written back.
@@ -618,18 +582,17 @@ mod tests {
         assert!(rt; size <= 64);
         let mut back = vec![in heap; 255u8; codes.len()]?;
         assert_eq!(rt;
-            read_record(names, &out[0..size], back.as_mut_slice()),
+            read_record(names, &out[0..size], &mut back),
             Ok(codes.len())
         );
         assert_eq!(rt; back.as_slice(), codes);
-        writes(rt, names, back.as_slice(), Ok(size), &out[0..size], heap)
+        writes(rt, names, &back, Ok(size), &out[0..size], heap)
     }
 
     #[test]
     fn records_go_round(rt: HostRuntime) -> Result<(), Fail> {
         let heap = rt.alloc();
-        let mut names = NameList::new(heap);
-        names.load(NAMES, heap)?;
+        let mut names = list_of(NAMES, heap)?;
         goes_round(&rt, &names, &[], heap)?;
         goes_round(&rt, &names, &[0, 1, 16, 17, 32, 33], heap)?;
         goes_round(&rt, &names, &[33, 33, 0, 0, 0, 16, 17], heap)?;
@@ -664,17 +627,10 @@ mod tests {
         left: &[u8],
         heap: Global,
     ) -> Result<(), Fail> {
-        let mut names = NameList::new(heap);
-        names.load(NAMES, heap)?;
+        let names = list_of(NAMES, heap)?;
         let mut codes = vec![in heap; 255u8; left.len()]?;
         let mut marks = mark_row(machine, places, heap)?;
-        let checked = check_record(
-            &names,
-            bytes,
-            machine,
-            codes.as_mut_slice(),
-            marks.as_mut_slice(),
-        );
+        let checked = check_record(&names, bytes, machine, &mut codes, &mut marks);
         assert_eq!(rt; (checked, bytes), (outcome, bytes));
         assert_eq!(rt; codes.as_slice(), left);
         Ok(())
@@ -813,7 +769,7 @@ mod tests {
             &rt,
             &Names,
             4,
-            many(1, 65536, &[], heap)?.as_slice(),
+            &many(1, 65536, &[], heap)?,
             faulty(Fault::TooLong(first)),
             &[255],
             heap,

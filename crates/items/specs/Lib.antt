@@ -3,3 +3,4 @@ pub mod Words
 pub mod Makings
 pub mod Endings
 pub mod Writing
+pub mod Texts

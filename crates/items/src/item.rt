@@ -4,7 +4,7 @@
 ///
 /// An item of the base level is about words read from the start with no call open at their end. An item of the inner level is about
 /// what is read behind a call that is still open.
-#[derive(Clone, Copy, PartialEq, Eq, Debug)]
+#[derive(Clone, Copy, Debug, PartialEq, Eq, Hash)]
 pub enum Level {
     Base,
     Inner,
@@ -13,7 +13,7 @@ pub enum Level {
 /// That some word leads from the entry state to the present state, with no call open that is opened in it.
 ///
 /// The entry state is the start state at the base level, and the state behind the latest open call at the inner level.
-#[derive(Clone, Copy, PartialEq, Debug)]
+#[derive(Clone, Copy, Debug, PartialEq, Eq, Hash)]
 pub struct Item<S> {
     pub level: Level,
     pub entry: S,

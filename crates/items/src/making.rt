@@ -2,7 +2,7 @@
 use nested::letter::Letter;
 
 /// The rule that made an item, the numbers of the items that it was made from, and the letters that it adds.
-#[derive(Clone, Copy, PartialEq, Eq, Debug)]
+#[derive(Clone, Copy, Debug, PartialEq, Eq, Hash)]
 pub enum How {
     /// The item of the start state.
     Begun,
@@ -28,7 +28,7 @@ pub enum How {
 /// How an item was made.
 ///
 /// Any value is allowed: a making from an item that is not before it counts as begun, and a name as its remainder by 16.
-#[derive(Clone, Copy, PartialEq, Eq, Debug)]
+#[derive(Clone, Copy, Debug, PartialEq, Eq, Hash)]
 pub struct Making {
     pub how: How,
 }

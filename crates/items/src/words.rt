@@ -1,7 +1,8 @@
 // The whole word of an item, unwound from the makings: its length, and its codes in a buffer.
-ghost use Rattle.std.specs.Prelude.{◌≡◌, ◌+◌, ◌≤◌, min, length};
+ghost use Rattle.std.specs.Prelude.{◌≡◌, ◌+◌, ◌≤◌, min, length, Some};
 ghost use Rattle.items.specs.Endings.{Ends, ending, letters_of};
-ghost use Rattle.items.specs.Words.{how_at, word_of, word_parts};
+ghost use Rattle.items.specs.Texts.{too_long_text};
+ghost use Rattle.items.specs.Words.{word_of, word_parts};
 ghost use Rattle.items.specs.Writing.{Stands, Writes};
 ghost use Rattle.items.specs.declared.words.Part.TheVariants.{Whole, Local};
 
@@ -14,12 +15,14 @@ use std::fmt;
 pub const LONGEST_WORD: usize = 1024;
 
 /// That a word is longer than 1,024 letters or than the buffer: how many letters it has, or 1,025 where it has more than 1,024.
-#[derive(Clone, Copy, PartialEq, Eq, Debug)]
+#[derive(Clone, Copy, Debug, PartialEq, Eq, Hash)]
 pub struct TooLong {
     pub length: usize,
 }
 
 impl fmt::Display for TooLong {
+    ghost output = { λ e. Some (too_long_text e) };
+
     fn fmt<W: fmt::Write>(&self, f: &mut fmt::Formatter<W>) -> fmt::Result {
         if self.length > LONGEST_WORD {
             write!(f, "the word has more than {LONGEST_WORD} letters")
@@ -32,7 +35,7 @@ impl fmt::Display for TooLong {
 impl Error for TooLong {}
 
 // The whole word of an item, or its local word: what stands behind the latest call that is open.
-#[derive(Clone, Copy)]
+#[derive(Clone, Copy, Debug)]
 enum Part {
     Whole,
     Local,
@@ -40,7 +43,7 @@ enum Part {
 
 // How a word that is not empty ends: a letter stands behind the same part of an item's word; or a call, the local word of a second item
 // and a return do.
-#[derive(Clone, Copy)]
+#[derive(Clone, Copy, Debug)]
 enum Ending {
     One {
         from: usize,
@@ -54,8 +57,9 @@ enum Ending {
     },
 }
 
-// The word of the item with this number, or a part of it.
-#[derive(Clone, Copy)]
+// The word of the item with this number, or a part of it. It is unwound recursively: what it is made of are words of items with lower
+// numbers.
+#[derive(Clone, Copy, Debug)]
 struct Word<'a> {
     makings: &'a [Making],
     number: usize,

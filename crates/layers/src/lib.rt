@@ -8,11 +8,11 @@ ghost use Rattle.std.proofs.Common.{rules};
 use nested::machine::Machine;
 
 /// Steps as the machine below, and accepts exactly where that does not.
-#[derive(Drop)]
+#[derive(Debug, Drop)]
 pub struct Not<M>(pub M);
 
 /// Steps two machines side by side, with pairs of their states as states; `join` says when the pair accepts.
-#[derive(Drop)]
+#[derive(Debug, Drop)]
 pub struct Pair<A, B, J> {
     pub first: A,
     pub second: B,
@@ -82,6 +82,7 @@ impl<A: Machine, B: Machine, J: Join> Pair<A, B, J> {
     }
 }
 
+// `both` and `either` differ only in the join. They stand beside `new` as the two layers that callers ask for by name.
 impl<A: Machine, B: Machine> Pair<A, B, And> {
     /// The machine that accepts exactly the words that both machines accept.
     pub fn both(first: A, second: B) -> Both<A, B>

@@ -1,7 +1,7 @@
 // The machine that bounds how many calls are open at once.
 ghost use Rattle.std.specs.Prelude.{◌≡◌, ◌≤◌, min};
 ghost use Rattle.machines.specs.Depth.{AcceptsWithin, depth_automaton};
-ghost use Rattle.std.proofs.Common.{rules, arith};
+ghost use Rattle.std.proofs.Common.{rules};
 
 use nested::machine::Machine;
 

@@ -1,12 +1,11 @@
 // The machine that holds each return to the name of its call.
-ghost use Rattle.std.specs.Prelude.{◌≡◌};
 ghost use Rattle.machines.specs.Names.{AcceptsAgreeing, names};
 ghost use Rattle.std.proofs.Common.{rules};
 
 use nested::machine::Machine;
 
 /// Accepts a word if each return that closes a call has the name of that call.
-#[derive(Clone, Copy, Debug, PartialEq, Eq, Hash)]
+#[derive(Clone, Copy, Debug, Default, PartialEq, Eq, Hash)]
 pub struct Names;
 
 /// Whether every return so far agreed with its call.

@@ -70,6 +70,11 @@ listable_behind us (n ∷ ns) = not (is_some (names_format (map name_field us) (
 abbrev pub listable : List Name → Bool
 listable ns = listable_behind [] ns
 
+-- what a name list holds: names that can stand in a list
+pub record Listed : Type 0 where
+  pub names : List Name
+  pub in_order : listable names ≡ true
+
 -- a fault of a name list, and its place
 abbrev pub names_fault : ℕ → Option ℕ → Option Told
 names_fault = fault_in Names

@@ -1,5 +1,5 @@
 // A list of names, loaded from a file.
-ghost use Rattle.std.specs.Prelude.{◌≡◌, ◌<◌, ◌≤◌, true, ◌⊎◌, [], ◌∷◌, ◌++◌, length, Ok, Err, MatchOption, MatchResult, slice_index_or, position};
+ghost use Rattle.std.specs.Prelude.{◌≡◌, ◌<◌, ◌≤◌, true, ◌⊎◌, [], ◌∷◌, ◌++◌, map, length, vec_items, Ok, Err, MatchOption, MatchResult, slice_index_or, position};
 ghost use Rattle.fields.specs.declared.fault.Fault.TheVariants.{Memory};
 ghost use Rattle.fields.specs.Outcomes.{OneOutcome};
 ghost use Rattle.fields.specs.Parts.{part_of, piece_of};
@@ -12,26 +12,30 @@ use fields::reader::Fields;
 use std::alloc::{AllocError, Global};
 use std::marker::Model;
 
+/// The most names that a list has.
+pub const MOST_NAMES: usize = 16;
+
 /// Names numbered from 0, at most 16 of them, no two of them one.
-#[derive(Drop)]
+#[derive(Drop, Debug)]
 pub struct NameList {
+    // Vectors, and no map: there are at most 16, and a name is found by its number as often as by its bytes.
     names: Vec<Vec<u8>>,
+    ghost in_order: { listable (names_of names) ≡ true },
 }
 
 impl Model for NameList {
-    ghost use Rattle.std.specs.Prelude.{◌≡◌, true, List};
-    ghost use Rattle.name_list.specs.Names.{Name, listable, names_of};
+    ghost use Rattle.name_list.specs.Names.{Listed, names_of};
 
-    ghost Value = { List Name };
+    ghost Value = { Listed };
 
-    ghost view = { λ l. names_of l.names };
-
-    ghost invariant = { λ l. listable (names_of l.names) ≡ true };
+    ghost view = { λ l. record { names = names_of l.names; in_order = l.in_order } };
 }
 
-// The index of the first name that is this one.
-fn find_in(names: &Vec<Vec<u8>>, name: &[u8]) -> Option<usize>
-    ensures { result ≡ position (λ v. same_name v.items name.now) names.now.items }
+// The index of the first name that is this one. It is inlined, since a call for each letter made the reader of records slower than the
+// one in Rust.
+#[inline(always)]
+fn find_in(names: &[Vec<u8>], name: &[u8]) -> Option<usize>
+    ensures { result ≡ position (λ v. same_name v.items name.now) names.now }
 {
     names
         .iter()
@@ -39,8 +43,8 @@ fn find_in(names: &Vec<Vec<u8>>, name: &[u8]) -> Option<usize>
 }
 
 // The name in a field that comes behind these names, or what is wrong with the field.
-fn judge<'a>(names: &Vec<Vec<u8>>, field: Field<'a>) -> Result<&'a [u8], Fault>
-    ensures { MatchResult result (λ n. Judged (names_of names.now) (piece_of field.entry) (part_of field.entry).place (Ok n.now)) (λ e. Judged (names_of names.now) (piece_of field.entry) (part_of field.entry).place (Err e)) }
+fn judge<'a>(names: &[Vec<u8>], field: Field<'a>) -> Result<&'a [u8], Fault>
+    ensures { MatchResult result (λ n. Judged (map vec_items names.now) (piece_of field.entry) (part_of field.entry).place (Ok n.now)) (λ e. Judged (map vec_items names.now) (piece_of field.entry) (part_of field.entry).place (Err e)) }
 {
     let at = File::Names.at(field.part().place);
     let Field::Name(part) = field else {
@@ -49,7 +53,7 @@ fn judge<'a>(names: &Vec<Vec<u8>>, field: Field<'a>) -> Result<&'a [u8], Fault>
     if !has_name_length(part.contents) {
         return Err(Fault::Length(at));
     }
-    if names.len() >= 16 {
+    if names.len() >= MOST_NAMES {
         return Err(Fault::TooMany(at));
     }
     if !has_name_bytes(part.contents) {
@@ -88,7 +92,7 @@ fn read_names(bytes: &[u8], heap: Global) -> Result<Vec<Vec<u8>>, Fault>
 impl NameList {
     /// A list with no names.
     pub fn new(heap: Global) -> NameList
-        ensures { result ≡ [] }
+        ensures { result.names ≡ [] }
     {
         NameList {
             names: Vec::new(heap),
@@ -97,7 +101,7 @@ impl NameList {
 
     /// Takes the names that a file lists in place of its own. A refused load leaves the list as it was.
     pub fn load(&mut self, bytes: &[u8], heap: Global) -> Result<(), Fault>
-        ensures loads { Loads bytes.now self.old self.new result }
+        ensures loads { Loads bytes.now self.old.names self.new.names result }
         ensures only { OneOutcome names_format bytes.now }
     {
         self.names = read_names(bytes, heap)?;
@@ -106,25 +110,22 @@ impl NameList {
 
     /// How many names there are.
     pub fn len(&self) -> usize
-        ensures count { result ≡ length self.now }
-        ensures list { listable self.now ≡ true }
+        ensures count { result ≡ length self.now.names }
+        ensures few { result ≤ 16 }
     {
         self.names.len()
     }
 
     /// The name with this number.
     pub fn name(&self, number: usize) -> Option<&[u8]>
-        ensures list { listable self.now ≡ true }
-        ensures name { MatchOption result (length self.now ≤ number) (λ n. (number < length self.now) × (n.now ≡ slice_index_or self.now number [])) }
+        ensures { MatchOption result (length self.now.names ≤ number) (λ n. (number < length self.now.names) × (n.now ≡ slice_index_or self.now.names number [])) }
     {
         self.names.get(number).map(|name| name.as_slice())
     }
 
     /// The number of a name, if it is listed.
-    #[tactic(auto, using(crate::proofs::Held::number_by_position))]
     pub fn find(&self, name: &[u8]) -> Option<usize>
-        ensures list { listable self.now ≡ true }
-        ensures number { result ≡ number_of self.now name.now }
+        ensures { result ≡ number_of self.now.names name.now }
     {
         find_in(&self.names, name)
     }

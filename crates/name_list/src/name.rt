@@ -2,6 +2,9 @@
 ghost use Rattle.std.specs.Prelude.{◌≡◌};
 ghost use Rattle.name_list.specs.Names.{name_byte, name_bytes, name_long, same_name};
 
+/// The most bytes that a name has.
+pub const LONGEST_NAME: usize = 32;
+
 /// Whether a byte may stand in a name: a to z, A to Z, 0 to 9, `_`, `-` and `.`.
 pub fn is_name_byte(byte: u8) -> bool
     ensures { result ≡ name_byte byte }
@@ -20,7 +23,7 @@ pub fn has_name_bytes(name: &[u8]) -> bool
 pub fn has_name_length(name: &[u8]) -> bool
     ensures { result ≡ name_long name.now }
 {
-    0 < name.len() && name.len() <= 32
+    (1..=LONGEST_NAME).contains(&name.len())
 }
 
 /// Whether two names are one.

@@ -1,5 +1,5 @@
 // A follower reads a record letter by letter with a machine.
-ghost use Rattle.std.specs.Prelude.{◌≡◌, ◌<◌, ◌≤◌, length, MatchResult};
+ghost use Rattle.std.specs.Prelude.{◌≡◌, ◌%◌, ◌<◌, ◌≤◌, length, MatchResult};
 ghost use Rattle.nested.specs.Letters.{letter_of};
 ghost use Rattle.nested.specs.Following.{begun_at, follow_refusal, Reads, RefusedBy};
 ghost use Rattle.nested.specs.declared.letter.Letter.TheVariants.{Call, Return};
@@ -12,15 +12,16 @@ use crate::row::MOST_PLACES;
 use crate::standing::Standing;
 
 /// Follows a record with a machine. The marks of the open calls lie in a row that the caller lends to each call.
-#[derive(Drop)]
+#[derive(Debug, Drop)]
 pub struct Follower<'a, M: Machine> {
     machine: &'a M,
     at: Position<M::State>,
     ghost within: { at.taken ≤ at.row },
 }
 
-// Where a follower stands: its state, how many mark places are taken, and the length of the row that was lent at begin.
-#[derive(Clone, Copy)]
+// Where a follower stands: its state, how many mark places are taken, and the length of the row that was lent at begin. The row itself
+// is the caller's, who lends it to each call.
+#[derive(Clone, Copy, Debug)]
 struct Position<S> {
     state: S,
     taken: usize,
@@ -58,41 +59,12 @@ impl<'a, M: Machine> Follower<'a, M> {
                 if self.at.taken >= self.at.row.min(MOST_PLACES) {
                     return Err(Refusal::MarksFull);
                 }
-                self.call(name, marks);
+                self.at.call(self.machine, name, marks);
             }
-            Letter::Return(name) => self.ret(name, marks),
-            Letter::Internal(name) => self.at.state = self.machine.internal(self.at.state, name),
+            Letter::Return(name) => self.at.ret(self.machine, name, marks),
+            Letter::Internal(name) => self.at.internal(self.machine, name),
         }
         Ok(())
-    }
-
-    // Reads a call.
-    fn call(&mut self, name: u8, marks: &mut [Mark<M::State>])
-        requires { (self.old.at.taken < self.old.at.row) × (self.old.at.row ≡ length marks.old) }
-        ensures reads { Reads (M.Machine.meaning self.old.machine.now) (Call name) self.old.at marks.old self.new.at marks.new }
-        ensures machine { self.new.machine.now ≡ self.old.machine.now }
-    {
-        marks[self.at.taken] = Mark {
-            state: self.at.state,
-            name,
-        };
-        self.at.state = self.machine.call(self.at.state, name);
-        self.at.taken += 1;
-    }
-
-    // Reads a return: one that closes the latest call still open, or one that is pending.
-    fn ret(&mut self, name: u8, marks: &[Mark<M::State>])
-        requires { self.old.at.taken ≤ length marks.now }
-        ensures reads { Reads (M.Machine.meaning self.old.machine.now) (Return name) self.old.at marks.now self.new.at marks.now }
-        ensures machine { self.new.machine.now ≡ self.old.machine.now }
-    {
-        match marks[..self.at.taken].last() {
-            None => self.at.state = self.machine.pending(self.at.state, name),
-            Some(mark) => {
-                self.at.state = self.machine.ret(self.at.state, mark.state, mark.name, name);
-                self.at.taken -= 1;
-            }
-        }
     }
 
     /// Whether the state accepts, and how many calls are open.
@@ -104,5 +76,41 @@ impl<'a, M: Machine> Follower<'a, M> {
             accepts: self.machine.accepts(self.at.state),
             open: self.at.taken,
         }
+    }
+}
+
+impl<S: Copy> Position<S> {
+    // Reads a call.
+    fn call<M: Machine<State = S>>(&mut self, machine: &M, name: u8, marks: &mut [Mark<S>])
+        requires { (self.old.taken < self.old.row) × (self.old.row ≡ length marks.old) }
+        ensures { Reads (M.Machine.meaning machine.now) (Call name) self.old marks.old self.new marks.new }
+    {
+        marks[self.taken] = Mark {
+            state: self.state,
+            name,
+        };
+        self.state = machine.call(self.state, name);
+        self.taken += 1;
+    }
+
+    // Reads a return: one that closes the latest call still open, or one that is pending.
+    fn ret<M: Machine<State = S>>(&mut self, machine: &M, name: u8, marks: &[Mark<S>])
+        requires { self.old.taken ≤ length marks.now }
+        ensures { Reads (M.Machine.meaning machine.now) (Return name) self.old marks.now self.new marks.now }
+    {
+        match marks[..self.taken].last() {
+            None => self.state = machine.pending(self.state, name),
+            Some(mark) => {
+                self.state = machine.ret(self.state, mark.state, mark.name, name);
+                self.taken -= 1;
+            }
+        }
+    }
+
+    // Reads an internal letter, which has no mark.
+    fn internal<M: Machine<State = S>>(&mut self, machine: &M, name: u8)
+        ensures { self.new ≡ record self.old { state = (M.Machine.meaning machine.now).internal self.old.state (name % 16) } }
+    {
+        self.state = machine.internal(self.state, name);
     }
 }

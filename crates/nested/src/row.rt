@@ -20,7 +20,8 @@ pub fn mark_row<M: Machine>(
         state: machine.start(),
         name: 0,
     };
-    // Not `vec![in heap; mark; places]`, whose copies are what a state's `clone` says: that is nothing of a state known by its trait.
+    // `vec![in heap; mark; places]` would fill the row with clones of `mark`, and no machine says what a clone of its states is.
+    // `resize` fills it with copies.
     let mut marks = Vec::new(heap);
     marks.resize(places, mark)?;
     Ok(marks)

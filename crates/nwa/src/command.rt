@@ -1,6 +1,7 @@
 // The commands, and how one is answered.
 use crate::check::answer_check;
 use crate::failure::{Failure, ParseError};
+use crate::files::{Files, LIST};
 use crate::follow::answer_follow;
 use crate::letters::{answer_letters, answer_show};
 use crate::names::answer_names;
@@ -12,23 +13,17 @@ use std::alloc::Global;
 const COMMAND: &str =
     "a command: follow MACHINE CODE..., names LIST, letters LIST RECORD, show LIST RECORD, check LIST RECORD MACHINE or write LIST OUT CODE...";
 
-const LIST: &str = "the file of a name list";
-
-const RECORD: &str = "the file of a record";
-
 const OUT: &str = "the file to write";
 
 const CODE: &str = "a letter code: a number from 0 to 47";
-
-const END: &str = "the end of the command";
 
 #[derive(Drop)]
 enum Command<'a> {
     Follow(Shape, Vec<u8>),
     Names(&'a str),
-    Letters(&'a str, &'a str),
-    Show(&'a str, &'a str),
-    Check(&'a str, &'a str, Shape),
+    Letters(Files<'a>),
+    Show(Files<'a>),
+    Check(Files<'a>, Shape),
     Write(&'a str, &'a str, Vec<u8>),
 }
 
@@ -36,14 +31,6 @@ enum Command<'a> {
 fn parse_codes(words: Words, heap: Global) -> Result<Vec<u8>, ParseError> {
     let Words(rest) = words;
     rest.map(|word| byte(word, CODE)).try_collect(heap)
-}
-
-// The file of a name list, and then another.
-fn parse_files<'a>(
-    words: &mut Words<'a>,
-    what: &'static str,
-) -> Result<(&'a str, &'a str), ParseError> {
-    Ok((words.expect(LIST)?, words.expect(what)?))
 }
 
 fn parse<'a>(mut words: Words<'a>, heap: Global) -> Result<Command<'a>, ParseError> {
@@ -54,27 +41,28 @@ fn parse<'a>(mut words: Words<'a>, heap: Global) -> Result<Command<'a>, ParseErr
         }
         "names" => {
             let list = words.expect(LIST)?;
-            words.end(END)?;
+            words.end()?;
             Ok(Command::Names(list))
         }
         "letters" => {
-            let (list, record) = parse_files(&mut words, RECORD)?;
-            words.end(END)?;
-            Ok(Command::Letters(list, record))
+            let files = Files::parse(&mut words)?;
+            words.end()?;
+            Ok(Command::Letters(files))
         }
         "show" => {
-            let (list, record) = parse_files(&mut words, RECORD)?;
-            words.end(END)?;
-            Ok(Command::Show(list, record))
+            let files = Files::parse(&mut words)?;
+            words.end()?;
+            Ok(Command::Show(files))
         }
         "check" => {
-            let (list, record) = parse_files(&mut words, RECORD)?;
+            let files = Files::parse(&mut words)?;
             let machine = Shape::parse(&mut words)?;
-            words.end(END)?;
-            Ok(Command::Check(list, record, machine))
+            words.end()?;
+            Ok(Command::Check(files, machine))
         }
         "write" => {
-            let (list, out) = parse_files(&mut words, OUT)?;
+            let list = words.expect(LIST)?;
+            let out = words.expect(OUT)?;
             Ok(Command::Write(list, out, parse_codes(words, heap)?))
         }
         _ => Err(ParseError::Expected(COMMAND)),
@@ -86,9 +74,9 @@ pub fn answer<'a>(words: &'a [&'a str], rt: &HostRuntime) -> Result<(), Failure<
     match parse(Words(words.iter()), rt.alloc())? {
         Command::Follow(machine, codes) => answer_follow(machine, &codes, rt),
         Command::Names(list) => answer_names(list, rt),
-        Command::Letters(list, record) => answer_letters(list, record, rt),
-        Command::Show(list, record) => answer_show(list, record, rt),
-        Command::Check(list, record, machine) => answer_check(list, record, machine, rt),
+        Command::Letters(files) => answer_letters(files, rt),
+        Command::Show(files) => answer_show(files, rt),
+        Command::Check(files, machine) => answer_check(files, machine, rt),
         Command::Write(list, out, codes) => answer_write(list, out, &codes, rt),
     }
 }

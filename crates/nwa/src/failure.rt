@@ -3,58 +3,37 @@ use fields::fault::Fault;
 use nested::standing::Stop;
 use records::check::Unchecked;
 use std::alloc::AllocError;
-use std::{fmt, io};
+use std::io;
+use thiserror::Error;
 
 /// Why words were not understood as a command.
-#[derive(Drop)]
+#[derive(Debug, Drop, Error)]
 pub enum ParseError {
     /// They are none: this is expected in place of one of them.
+    #[error("error: expected {0}")]
     Expected(&'static str),
-    /// There was no memory for it.
-    Memory(AllocError),
-}
-
-impl From<AllocError> for ParseError {
-    fn from(error: AllocError) -> Self {
-        ParseError::Memory(error)
-    }
+    #[error(transparent)]
+    Memory(#[from(alloc)] AllocError),
 }
 
 /// Why a command is not carried out.
-#[derive(Drop)]
+#[derive(Debug, Drop, Error)]
 pub enum Failure<'a> {
-    /// It is not understood.
+    #[error("error: expected {0}")]
     Expected(&'static str),
-    /// The file with this name cannot be read.
+    #[error("error: expected a file that can be read in place of {0}")]
     Unreadable(&'a str),
-    /// The file with this name cannot be written.
+    #[error("error: expected a file that can be written in place of {0}")]
     Unwritable(&'a str),
-    /// A file has a fault, or letters to be written to one; or a letter was refused.
-    Refused(Unchecked),
+    /// A file has a fault, or letters to be written to one.
+    #[error(transparent)]
+    Faulty(#[from] Fault),
+    /// A letter was refused.
+    #[error(transparent)]
+    Refused(#[from] Stop),
     /// Printing failed, or there was no memory. No command is answered after that.
-    Io(io::Error),
-}
-
-impl fmt::Display for Failure<'_> {
-    fn fmt<W: fmt::Write>(&self, f: &mut fmt::Formatter<W>) -> fmt::Result {
-        match self {
-            Failure::Expected(what) => write!(f, "error: expected {what}"),
-            Failure::Unreadable(path) => {
-                write!(
-                    f,
-                    "error: expected a file that can be read in place of {path}"
-                )
-            }
-            Failure::Unwritable(path) => {
-                write!(
-                    f,
-                    "error: expected a file that can be written in place of {path}"
-                )
-            }
-            Failure::Refused(unchecked) => write!(f, "{unchecked}"),
-            Failure::Io(error) => write!(f, "{error}"),
-        }
-    }
+    #[error(transparent)]
+    Io(#[from] io::Error),
 }
 
 impl From<ParseError> for Failure<'_> {
@@ -66,27 +45,12 @@ impl From<ParseError> for Failure<'_> {
     }
 }
 
-impl From<Fault> for Failure<'_> {
-    fn from(fault: Fault) -> Self {
-        Failure::Refused(fault.into())
-    }
-}
-
-impl From<Stop> for Failure<'_> {
-    fn from(stop: Stop) -> Self {
-        Failure::Refused(stop.into())
-    }
-}
-
 impl From<Unchecked> for Failure<'_> {
     fn from(unchecked: Unchecked) -> Self {
-        Failure::Refused(unchecked)
-    }
-}
-
-impl From<io::Error> for Failure<'_> {
-    fn from(error: io::Error) -> Self {
-        Failure::Io(error)
+        match unchecked {
+            Unchecked::Faulty(fault) => Failure::Faulty(fault),
+            Unchecked::Refused(stop) => Failure::Refused(stop),
+        }
     }
 }
 

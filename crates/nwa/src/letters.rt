@@ -1,15 +1,12 @@
 // nwa letters and nwa show: the letters of a record.
 use crate::failure::Failure;
-use crate::files::{load_names, read_file};
+use crate::files::Files;
 use crate::names::text_of;
 use name_list::list::NameList;
 use nested::letter::Letter;
-use records::read::read_record;
+use records::read::{MOST_LETTERS, read_record};
 use std::alloc::{AllocError, Global};
 use std::io;
-
-/// No record has more letters: each takes at least 4 of at most 65,535 bytes.
-pub const MOST_LETTERS: usize = 16384;
 
 // A name list and the letters of a record that were read with it.
 #[derive(Drop)]
@@ -19,9 +16,8 @@ struct Record {
 }
 
 // Reads the two files.
-fn load<'a>(list: &'a str, path: &'a str, rt: &HostRuntime) -> Result<Record, Failure<'a>> {
-    let names = load_names(list, rt)?;
-    let bytes = read_file(path, rt)?;
+fn load<'a>(files: Files<'a>, rt: &HostRuntime) -> Result<Record, Failure<'a>> {
+    let (names, bytes) = files.open(rt)?;
     let mut codes = vec![in rt.alloc(); 0u8; MOST_LETTERS]?;
     let count = read_record(&names, &bytes, &mut codes)?;
     codes.truncate(count);
@@ -29,12 +25,8 @@ fn load<'a>(list: &'a str, path: &'a str, rt: &HostRuntime) -> Result<Record, Fa
 }
 
 /// `letters LIST RECORD`: how many letters there are, and their codes.
-pub fn answer_letters<'a>(
-    list: &'a str,
-    path: &'a str,
-    rt: &HostRuntime,
-) -> Result<(), Failure<'a>> {
-    let Record { names: _, codes } = load(list, path, rt)?;
+pub fn answer_letters<'a>(files: Files<'a>, rt: &HostRuntime) -> Result<(), Failure<'a>> {
+    let Record { names: _, codes } = load(files, rt)?;
     let count = codes.len();
     println!(rt; "{count} letters")?;
     if let Some((first, rest)) = codes.split_first() {
@@ -47,7 +39,8 @@ pub fn answer_letters<'a>(
     Ok(())
 }
 
-// The letters with these codes, each with whether it is a call that is never closed.
+// The letters with these codes, each with whether it is a call that is never closed: that is told by its place in the word, so the letter
+// itself cannot hold it.
 fn with_unclosed(codes: &[u8], heap: Global) -> Result<Vec<(Letter, bool)>, AllocError> {
     let mut letters = Vec::with_capacity(heap, codes.len())?;
     let mut returns = 0u64;
@@ -87,7 +80,7 @@ fn print_word(names: &NameList, letters: &[(Letter, bool)], rt: &HostRuntime) ->
             depth = depth.saturating_sub(1);
         }
         let indent = depth.saturating_mul(2);
-        let name = text_of(names, usize::from(name), rt.alloc())?;
+        let name = text_of(names, usize::from(name));
         let mark = if pending { " (pending)" } else { "" };
         println!(rt; "{:indent$}{kind} {name}{mark}", "")?;
         if matches!(letter, Letter::Call(_)) {
@@ -98,8 +91,8 @@ fn print_word(names: &NameList, letters: &[(Letter, bool)], rt: &HostRuntime) ->
 }
 
 /// `show LIST RECORD`: each letter by its name, indented by the calls that are open, pending calls and returns marked.
-pub fn answer_show<'a>(list: &'a str, path: &'a str, rt: &HostRuntime) -> Result<(), Failure<'a>> {
-    let Record { names, codes } = load(list, path, rt)?;
+pub fn answer_show<'a>(files: Files<'a>, rt: &HostRuntime) -> Result<(), Failure<'a>> {
+    let Record { names, codes } = load(files, rt)?;
     let count = codes.len();
     println!(rt; "{count} letters")?;
     print_word(&names, &with_unclosed(&codes, rt.alloc())?, rt)?;

@@ -2,12 +2,11 @@
 use crate::failure::Failure;
 use crate::files::load_names;
 use name_list::list::NameList;
-use std::alloc::{AllocError, Global};
+use std::slice::EscapeAscii;
 
-/// A name as text; every byte of a name is a character.
-pub fn text_of(names: &NameList, number: usize, heap: Global) -> Result<String, AllocError> {
-    let name = names.name(number).unwrap_or(&[]);
-    name.iter().map(|byte| char::from(*byte)).collect(heap)
+/// A name as it is printed: every byte that a name may have is printed as itself. Without a name there is nothing.
+pub fn text_of(names: &NameList, number: usize) -> EscapeAscii<'_> {
+    names.name(number).unwrap_or(&[]).escape_ascii()
 }
 
 /// `names LIST`: how many names there are, and each with its number.
@@ -16,7 +15,7 @@ pub fn answer_names<'a>(list: &'a str, rt: &HostRuntime) -> Result<(), Failure<'
     let count = names.len();
     println!(rt; "{count} names")?;
     for number in 0..count {
-        let name = text_of(&names, number, rt.alloc())?;
+        let name = text_of(&names, number);
         println!(rt; "{number} {name}")?;
     }
     Ok(())

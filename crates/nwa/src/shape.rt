@@ -14,28 +14,28 @@ const OPERAND: &str = "a machine without a layer of its own but not: names, dept
 const DEPTH: &str = "a number after depth";
 
 /// A machine, or its complement.
-#[derive(Clone, Copy)]
+#[derive(Clone, Copy, PartialEq, Eq, Debug)]
 pub enum Signed<T> {
     Plain(T),
     Not(T),
 }
 
 /// A machine that stands on no other.
-#[derive(Clone, Copy)]
+#[derive(Clone, Copy, PartialEq, Eq, Debug)]
 pub enum Simple {
     Names,
     Depth(u8),
 }
 
 /// How two machines are joined.
-#[derive(Clone, Copy)]
+#[derive(Clone, Copy, PartialEq, Eq, Debug)]
 pub enum Layer {
     Both,
     Either,
 }
 
 /// Two machines, joined.
-#[derive(Clone, Copy)]
+#[derive(Clone, Copy, PartialEq, Eq, Debug)]
 pub struct Two {
     layer: Layer,
     first: Signed<Simple>,
@@ -43,7 +43,7 @@ pub struct Two {
 }
 
 /// The machines that a command can name. An even number of `not` in front of a machine leaves it as it is.
-#[derive(Clone, Copy)]
+#[derive(Clone, Copy, PartialEq, Eq, Debug)]
 pub enum Shape {
     One(Signed<Simple>),
     Two(Signed<Two>),
@@ -54,6 +54,11 @@ pub enum Shape {
 /// It is a trait, and no closure or `dyn`: a closure takes one type, and machines differ in the type of their states.
 pub trait Task<A> {
     fn run<M: Machine + Drop>(self, machine: M) -> A;
+}
+
+/// What a command can name for a machine: it makes the machine and does the work with it.
+pub trait Made {
+    fn with<A, T: Task<A>>(self, task: T) -> A;
 }
 
 impl<T> Signed<T> {
@@ -78,7 +83,9 @@ impl Simple {
             _ => Err(ParseError::Expected(expected)),
         }
     }
+}
 
+impl Made for Simple {
     fn with<A, T: Task<A>>(self, task: T) -> A {
         match self {
             Simple::Names => task.run(Names::new()),
@@ -93,13 +100,6 @@ impl Signed<Simple> {
         let keyword = words.expect(OPERAND)?;
         Ok(Signed::new(negated, Simple::parse(keyword, words, OPERAND)?))
     }
-
-    fn with<A, T: Task<A>>(self, task: T) -> A {
-        match self {
-            Signed::Plain(simple) => simple.with(task),
-            Signed::Not(simple) => simple.with(Complement(task)),
-        }
-    }
 }
 
 // Hands the complement of its machine on.
@@ -109,6 +109,15 @@ impl<A, T: Task<A>> Task<A> for Complement<T> {
     fn run<M: Machine + Drop>(self, machine: M) -> A {
         let Complement(task) = self;
         task.run(Not::new(machine))
+    }
+}
+
+impl<M: Made> Made for Signed<M> {
+    fn with<A, T: Task<A>>(self, task: T) -> A {
+        match self {
+            Signed::Plain(machine) => machine.with(task),
+            Signed::Not(machine) => machine.with(Complement(task)),
+        }
     }
 }
 
@@ -153,7 +162,9 @@ impl Two {
         let Two { first, second, .. } = self;
         first.with(PairWith { second, join, task })
     }
+}
 
+impl Made for Two {
     fn with<A, T: Task<A>>(self, task: T) -> A {
         match self.layer {
             Layer::Both => self.joined(And, task),
@@ -175,13 +186,13 @@ impl Shape {
             ))),
         }
     }
+}
 
-    /// Makes the machine and does the work with it.
-    pub fn with<A, T: Task<A>>(self, task: T) -> A {
+impl Made for Shape {
+    fn with<A, T: Task<A>>(self, task: T) -> A {
         match self {
-            Shape::One(simple) => simple.with(task),
-            Shape::Two(Signed::Plain(two)) => two.with(task),
-            Shape::Two(Signed::Not(two)) => two.with(Complement(task)),
+            Shape::One(machine) => machine.with(task),
+            Shape::Two(machine) => machine.with(task),
         }
     }
 }

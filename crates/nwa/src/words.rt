@@ -2,6 +2,8 @@
 use crate::failure::ParseError;
 use std::slice;
 
+const END: &str = "the end of the command";
+
 /// The words of a command that are not taken yet.
 #[derive(Drop)]
 pub struct Words<'a>(pub slice::Iter<'a, &'a str>);
@@ -13,9 +15,9 @@ impl<'a> Words<'a> {
     }
 
     /// That no word is left.
-    pub fn end(&mut self, what: &'static str) -> Result<(), ParseError> {
+    pub fn end(&mut self) -> Result<(), ParseError> {
         if self.0.next().is_some() {
-            return Err(ParseError::Expected(what));
+            return Err(ParseError::Expected(END));
         }
         Ok(())
     }
@@ -38,5 +40,5 @@ impl<'a> Words<'a> {
 /// The byte that a word writes out; a larger number counts as 255.
 pub fn byte(word: &str, what: &'static str) -> Result<u8, ParseError> {
     let number = word.parse::<u64>().map_err(|_| ParseError::Expected(what))?;
-    Ok(number.min(255) as u8)
+    Ok(u8::try_from(number).unwrap_or(u8::MAX))
 }

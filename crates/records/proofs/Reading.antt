@@ -24,10 +24,9 @@ module _ (names : List Name) (bytes was : List ℕ) where
     pub front : Front (record_format names (length was)) bytes place fields
     pub counted : count ≡ length fields
     pub buffer : now ≡ codes_in names fields ++ drop count was
-    pub list : 0 < count → listable names ≡ true
 
   pub so_far_none : ReadSoFar 0 0 was
-  so_far_none = record { fields = []; front = front_none (record_format names (length was)) bytes; counted = refl; buffer = refl; list = λ some. absurd (omega arith) }
+  so_far_none = record { fields = []; front = front_none (record_format names (length was)) bytes; counted = refl; buffer = refl }
 
   module _ (place count : ℕ) (now : List ℕ) (so_far : ReadSoFar place count now) where
     letters_stand : now ≡ codes_in names so_far.fields ++ drop (length so_far.fields) was
@@ -36,8 +35,8 @@ module _ (names : List Name) (bytes was : List ℕ) where
     at_field : (field : Field) (next : ℕ) → Stands bytes place field next → (part_of field).place ≡ length (file_of so_far.fields)
     at_field field next stands = stands.placed ∙ so_far.front.reached
 
-    pub so_far_more : (field : Field) (next code : ℕ) → Stands bytes place field next → spelling_fault names (piece_of field) ≡ None → code ≡ code_in names (piece_of field) → count < length was → listable names ≡ true → ReadSoFar next (count + 1) (set now count code)
-    so_far_more field next code stands free is room list =
+    pub so_far_more : (field : Field) (next code : ℕ) → Stands bytes place field next → spelling_fault names (piece_of field) ≡ None → code ≡ code_in names (piece_of field) → count < length was → ReadSoFar next (count + 1) (set now count code)
+    so_far_more field next code stands free is room =
         let fs = so_far.fields in
         let f = piece_of field in
         let fits : record_format names (length was) fs f ≡ None = room_last names f (length was) fs free ∙ cond-false (leb (length was) (length fs)) (Some 21) None (lt-leb (length was) (length fs) (let n = so_far.counted in omega arith)) in
@@ -50,7 +49,6 @@ module _ (names : List Name) (bytes was : List ℕ) where
           front = front_more so_far.front f next stands.behind stands.here fits;
           counted = (let n = so_far.counted in omega arith);
           buffer = put ∙ ap (λ c. codes_in names fs ++ c ∷ drop (count + 1) was) is ∙ sym (append_assoc (codes_in names fs) (code_in names f ∷ []) (drop (count + 1) was)) ∙ ap (λ xs. xs ++ drop (count + 1) was) (sym (map-append (code_in names) fs (f ∷ [])));
-          list = λ _. list;
         }
 
     pub reads_cut : (e : Fault) → Cut (drop place bytes) → told e ≡ record_fault place (Some 10) → Reads names bytes was now (Err e)
@@ -98,22 +96,18 @@ read_codes names bytes was now n r =
     let fs = r.outcome.fields in
     ap₂ take r.answer.1 r.buffer ∙ take_at (codes_in names fs) (drop (length fs) was) (length fs) (length-map fs (code_in names))
 
--- letters were read, so the names are of a list
-module _ (names : List Name) (bytes was now : List ℕ) where
-  few_read : (n : ℕ) → (0 < n → listable names ≡ true) → (r : Reads names bytes was now (Ok n)) → 0 < length r.outcome.fields → length names ≤ 16
-  few_read n list r some = let is = r.answer.1 in few_listable names (list (omega arith))
-
-  pub read_spells : (r : Result ℕ Fault) → IfOk r (λ n. 0 < n → listable names ≡ true) → Reads names bytes was now r → IfOk r (λ n. bytes ≡ spelled names (take n now))
-  read_spells (Ok n) list r =
+module _ (names : List Name) (list : listable names ≡ true) (bytes was now : List ℕ) where
+  pub read_spells : (r : Result ℕ Fault) → Reads names bytes was now r → IfOk r (λ n. bytes ≡ spelled names (take n now))
+  read_spells (Ok n) r =
       let fs = r.outcome.fields in
-      let spelling : file_of fs ≡ spelled names (codes_in names fs) = ap file_of (sym (spelled_in names (length was) fs (few_read n list r) r.fits.in_order)) in
+      let spelling : file_of fs ≡ spelled names (codes_in names fs) = ap file_of (sym (spelled_in names (length was) fs (few_listable names list) r.fits.in_order)) in
       whole (record_format names (length was)) bytes r.outcome r.fits r.answer.0 ∙ spelling ∙ ap (spelled names) (sym (read_codes names bytes was now n r))
-  read_spells (Err e) list r = tt
+  read_spells (Err e) r = tt
 
   -- the letters that were read, written again
-  pub read_writes_back : (r : Result ℕ Fault) → IfOk r (λ n. 0 < n → listable names ≡ true) → length bytes ≤ 65535 → Reads names bytes was now r → IfOk r (λ n. WritesBack names bytes (take n now))
-  read_writes_back (Ok n) list short r =
+  pub read_writes_back : (r : Result ℕ Fault) → length bytes ≤ 65535 → Reads names bytes was now r → IfOk r (λ n. WritesBack names bytes (take n now))
+  read_writes_back (Ok n) short r =
       let fs = r.outcome.fields in
       let all : bytes ≡ file_of fs = whole (record_format names (length was)) bytes r.outcome r.fits r.answer.0 in
-      subst₂ (λ b c. WritesBack names b c) (sym all) (sym (read_codes names bytes was now n r)) (writes_back names (length was) fs (few_read n list r) r.fits.in_order (subst (λ b. length b ≤ 65535) all short))
-  read_writes_back (Err e) list short r = tt
+      subst₂ (λ b c. WritesBack names b c) (sym all) (sym (read_codes names bytes was now n r)) (writes_back names (length was) fs (few_listable names list) r.fits.in_order (subst (λ b. length b ≤ 65535) all short))
+  read_writes_back (Err e) short r = tt

@@ -87,12 +87,12 @@ module _ (names : List Name) where
       let free = letter_free (length was) codes w.count within (letters w.count within) (omega arith) in
       absurd (both_ways _ (ap is_some free) w.answer.1)
 
-  module _ (room : ℕ) (fs : List Piece) (few : 0 < length fs → length names ≤ 16) (ordered : InOrder (record_format names room) fs) where
+  module _ (room : ℕ) (fs : List Piece) (few : length names ≤ 16) (ordered : InOrder (record_format names room) fs) where
     abbrev nth : ℕ → Piece
     nth k = get_or fs k (field_in names 0)
 
     nth_back : (k : ℕ) → k < length fs → LetterCode (code_in names (nth k)) × (field_in names (code_in names (nth k)) ≡ nth k)
-    nth_back k within = field_back room (take k fs) (nth k) (few (omega arith)) (in_order_at (record_format names room) fs (field_in names 0) ordered k within)
+    nth_back k within = field_back room (take k fs) (nth k) few (in_order_at (record_format names room) fs (field_in names 0) ordered k within)
 
     -- for fields in order the letters' bytes are the fields' bytes
     pub spelled_in : map (field_in names) (codes_in names fs) ≡ fs
@@ -111,15 +111,15 @@ module _ (names : List Name) where
   answered bytes was now (Ok n) read free = ap Ok read.answer.1
   answered bytes was now (Err e) read free = absurd (both_ways _ (ap is_some free) read.answer.0)
 
-  module _ (codes : List ℕ) (list : 0 < length codes → listable names ≡ true) (letters : (k : ℕ) → k < length codes → LetterCode (get_or codes k 0)) where
+  module _ (codes : List ℕ) (list : listable names ≡ true) (letters : (k : ℕ) → k < length codes → LetterCode (get_or codes k 0)) where
     codes_back : codes_in names (map (field_in names) codes) ≡ codes
-    codes_back = map_back (code_in names) (field_in names) 0 codes (λ k within. code_back (list (omega arith)) (get_or codes k 0) (letters k within))
+    codes_back = map_back (code_in names) (field_in names) 0 codes (λ k within. code_back list (get_or codes k 0) (letters k within))
 
     letters_in_order : (room : ℕ) → length codes ≤ room → InOrder (record_format names room) (map (field_in names) codes)
     letters_in_order room fits = in_order_each (record_format names room) (map (field_in names) codes) (field_in names 0) (λ k h.
         let within : k < length codes = rw (length-map codes (field_in names)) at h in
         let long = length-take k (map (field_in names) codes) in
-        rw (get_or-map (field_in names) codes k 0 (field_in names 0) within) (field_free (list (omega arith)) (get_or codes k 0) (letters k within) room _ (omega arith)))
+        rw (get_or-map (field_in names) codes k 0 (field_in names 0) within) (field_free list (get_or codes k 0) (letters k within) room _ (omega arith)))
 
     pub reads_back : length (spelled names codes) ≤ 65535 → ReadsBack names codes
     reads_back short was now r fits h =

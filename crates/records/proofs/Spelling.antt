@@ -1,5 +1,5 @@
 -- How a field of a record is judged.
-use Rattle.std.proofs.Common.{◌≡◌, ℕ, ◌+◌, ◌-◌, ◌*◌, ◌<◌, Bool, true, false, cond, not, leb, List, length, is_some, Some, None, Ok, Err, IsOkAnd, MatchResult, Option, Result, unwrap_or, sym, refl, ap, subst, ◌∙◌, arith}
+use Rattle.std.proofs.Common.{◌≡◌, ℕ, ◌+◌, ◌-◌, ◌*◌, ◌<◌, ◌≤◌, Bool, true, false, cond, not, leb, List, length, is_some, Some, None, Ok, Err, Option, unwrap_or, refl, ap, subst, ◌∙◌, arith}
 use Rattle.std.proofs.lemmas.Bool.{cond-false, cond-true}
 use Rattle.std.proofs.lemmas.Bool.Decides.{nat_tests}
 use Rattle.fields.specs.Faults.{told_at}
@@ -11,8 +11,7 @@ use Rattle.fields.specs.Fields.{Piece}
 use Rattle.fields.specs.Parts.{part_of, piece_of, tag_of}
 use Rattle.fields.specs.Tags.{known_tag}
 use Rattle.fields.specs.declared.field.Field.{Field}
-use Rattle.nested.specs.Letters.{code_of}
-use Rattle.nested.specs.declared.letter.Letter.{Letter}
+use Rattle.fields.specs.declared.field.Part.{Part}
 use Rattle.fields.specs.declared.fault.File.TheVariants.{Record}
 use Rattle.name_list.proofs.Loading.{few_listable}
 use Rattle.name_list.proofs.Numbers.{number_within}
@@ -97,22 +96,21 @@ module _ (names : List Name) (f : Piece) where
   unfolding spelling_fault record_format
   room_last room us e = behind_none (not (letter_tag f.tag)) (not (name_long f.contents)) (not (name_bytes f.contents)) (not (is_some (number_of names f.contents))) (cond (leb room (length us)) (Some 21) None) e
 
+-- the number of a name is added to a multiple of 16 that is at most 32
+pub low_tag : (t : ℕ) → letter_tag t ≡ true → t ≤ 3
+low_tag t e = grind (arith, nat_tests)
+
 pub other_letter : (t : ℕ) → known_tag t ≡ false → letter_tag t ≡ false
 other_letter t e = grind (arith, nat_tests)
 
--- What a field spells, by its case.
-module _ (names : List Name) (field x : Field) (is : field ≡ x) where
-  abbrev Spelled : Field → Result Letter Fault → Type 0
-  Spelled f r = MatchResult r (λ l. Spells names (piece_of f) (part_of f).place (Ok (code_of l))) (λ e. Spells names (piece_of f) (part_of f).place (Err e))
+-- What a field spells, by its tag and its part.
+module _ (names : List Name) (field : Field) (p : Part) (is : p ≡ part_of field) where
+  pub spells_no_letter : (at : At) → letter_tag (tag_of field) ≡ false → at ≡ record { file = Record; place = p.place } → Spells names (piece_of field) (part_of field).place (Err (Tag at))
+  spells_no_letter at other placed = spells_none names (piece_of field) (part_of field).place at other (placed ∙ ap (λ q. record { file = Record; place = q.place }) is)
 
-  pub spells_no_letter : (at : At) → letter_tag (tag_of x) ≡ false → at ≡ record { file = Record; place = (part_of x).place } → Spelled field (Err (Tag at))
-  spells_no_letter at other placed = subst (λ f. Spelled f (Err (Tag at))) (sym is) (spells_none names (piece_of x) (part_of x).place at other placed)
+  module _ (tag : letter_tag (tag_of field) ≡ true) where
+    pub spells_named : (number code : ℕ) → Named names p.contents.now p.place (Ok number) → code ≡ (tag_of field - 1) * 16 + number → Spells names (piece_of field) (part_of field).place (Ok code)
+    spells_named number code named coded = spells_letter names (piece_of field) tag (part_of field).place number code (subst (λ s. Named names s.contents.now s.place (Ok number)) is named) coded
 
-  module _ (kind : ℕ → Letter) (tag : letter_tag (tag_of x) ≡ true) (coded : (k : ℕ) → k < 16 → code_of (kind k) ≡ (tag_of x - 1) * 16 + k) where
-    in_case : (q : Result ℕ Fault) → Named names (part_of x).contents.now (part_of x).place q → (r : Result Letter Fault) → MatchResult q (λ k. IsOkAnd r (λ l. l ≡ kind k)) (λ e. r ≡ Err e) → Spelled x r
-    in_case (Ok k) named (Ok l) same = spells_letter names (piece_of x) tag (part_of x).place k (code_of l) named (ap code_of same ∙ coded k named.2)
-    in_case (Ok k) named (Err e) same = absurd same
-    in_case (Err e) named r same = rw same (spells_fault names (piece_of x) tag (part_of x).place e named)
-
-    pub spells_named : (q : Result ℕ Fault) → Named names (part_of x).contents.now (part_of x).place q → (r : Result Letter Fault) → MatchResult q (λ k. IsOkAnd r (λ l. l ≡ kind k)) (λ e. r ≡ Err e) → Spelled field r
-    spells_named q named r same = subst (λ f. Spelled f r) (sym is) (in_case q named r same)
+    pub spells_faulty : (e : Fault) → Named names p.contents.now p.place (Err e) → Spells names (piece_of field) (part_of field).place (Err e)
+    spells_faulty e named = spells_fault names (piece_of field) tag (part_of field).place e (subst (λ s. Named names s.contents.now s.place (Err e)) is named)

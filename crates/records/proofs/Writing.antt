@@ -1,19 +1,20 @@
 -- Writing letters: the bytes of one field, the faults of one letter, and the letters one by one.
-use Rattle.std.proofs.Common.{◌≡◌, ℕ, ◌+◌, ◌-◌, ◌/◌, ◌%◌, ◌<◌, ◌≤◌, min, ltb, Bool, true, false, cond, List, [], ◌∷◌, ◌++◌, map, length, get_or, take, drop, is_some, Some, None, Ok, Option, Result, sym, refl, ap, ◌∙◌, ap₂, subst, arith, below_more}
+use Rattle.std.proofs.Common.{◌≡◌, ℕ, ◌+◌, ◌-◌, ◌/◌, ◌%◌, ◌<◌, ◌≤◌, min, ltb, leb, ⊎_elim, Bool, true, false, cond, List, [], ◌∷◌, ◌++◌, map, length, get_or, take, drop, is_some, Some, None, Ok, Err, Option, Result, sym, refl, ap, ◌∙◌, ap₂, subst, arith, below_more}
 use Rattle.std.specs.Option.{ok_or}
-use borrow.Rule.Slice.PartMut.{put_mid}
-use Rattle.std.proofs.lemmas.List.{append_assoc, drop_at, drop-drop, length-append, map-append, take_all, take_at, take_more}
+use borrow.Rule.Slice.PartMut.{mid_of, put_mid, put_same}
+use Rattle.std.proofs.lemmas.List.{append_assoc, drop_at, drop-drop, drop-take, length-append, length-drop, length-take-le, map-append, take-append-drop, take_all, take_at, take_more}
 use Rattle.std.proofs.lemmas.Slice.{drop-put_mid, take-put_mid}
-use Rattle.std.proofs.lemmas.Bool.{cond_both, ltb-false, ltb-true}
+use Rattle.std.proofs.lemmas.Bool.{cases_lt, cond_both, le-ltb, lt-ltb, ltb-false, ltb-true}
 use Rattle.std.proofs.lemmas.Bool.Decides.{nat_tests}
 use Rattle.fields.proofs.Fronts.{file_of_more}
 use Rattle.fields.specs.Fields.{file_of, written}
 use Rattle.fields.specs.Faults.{told_at}
 use Rattle.fields.specs.declared.fault.At.{At}
+use Rattle.fields.specs.declared.fault.Fault.{Fault}
 use Rattle.fields.specs.declared.fault.File.TheVariants.{Record}
 use Rattle.name_list.specs.Names.{Name, listable}
 use Rattle.records.proofs.RoundTrips.{reads_back}
-use Rattle.records.specs.Records.{ReadsBack, fault_at, field_in, letter_fault, record_fault, spelled}
+use Rattle.records.specs.Records.{ReadsBack, Writes, fault_at, field_in, letter_fault, record_fault, spelled}
 use Rattle.nested.specs.Letters.{letter_at, letter_of, name_of}
 use Rattle.nested.specs.declared.letter.Letter.{Letter}
 use Rattle.nested.specs.declared.letter.NotALetter.{NotALetter}
@@ -21,15 +22,21 @@ use Rattle.nested.specs.declared.letter.Letter.TheVariants.{Call, Return, Intern
 use Rattle.records.specs.Writing.{LetterWritten, head_bytes, piece, tag_in, with_field}
 
 -- a field's head is copied, and then its contents behind it
-pub field_put : (was : List ℕ) (used t : ℕ) (cs head body : List ℕ) → used + (3 + length cs) ≤ length was → head ≡ head_bytes t (length cs) → body ≡ cs → put_mid (used + 3) (used + 3 + length cs - (used + 3)) (put_mid used (used + 3 - used) was head) body ≡ with_field was used (piece t cs)
-field_put was used t cs head body room is_head is_IsBody =
-    let end = used + length (written (piece t cs)) in
+-- the end of a front, and what is behind the front
+drop_both : (n k : ℕ) (xs : List ℕ) → n ≤ k → drop (0 + n) (take k xs) ++ drop k xs ≡ drop n xs
+drop_both n k xs h =
+    let is : k ≡ n + (k - n) = omega arith in
+    ap₂ (λ a b. drop a (take b xs) ++ drop b xs) (omega arith) is ∙ ap₂ ◌++◌ (drop-take n (k - n) xs) (sym (drop-drop (k - n) n xs)) ∙ take-append-drop (k - n) (drop n xs)
+
+pub field_put : (was : List ℕ) (t : ℕ) (cs head body : List ℕ) → 3 + length cs ≤ length was → head ≡ head_bytes t (length cs) → body ≡ cs → put_mid 3 (3 + length cs - 3) (put_mid 0 3 was head) body ≡ with_field was 0 (piece t cs)
+field_put was t cs head body room is_head is_body =
+    let end = 0 + length (written (piece t cs)) in
     let three = ap length is_head in
-    let front = take-put_mid used (used + 3 - used) was head (used + 3) (omega arith) (omega arith) in
-    let past = used + 3 + length cs - (used + 3) in
-    let headed = put_mid used (used + 3 - used) was head in
-    let behind : drop past (drop (used + 3) headed) ≡ drop end was = drop-drop past (used + 3) headed ∙ drop-put_mid used (used + 3 - used) was head (used + 3 + past) (omega arith) (omega arith) (omega arith) ∙ ap (λ n. drop n was) (omega arith) in
-    ap₂ (λ a b. a ++ (body ++ b)) front behind ∙ append_assoc (take used was) head (body ++ drop end was) ∙ ap₂ (λ h b. take used was ++ (h ++ (b ++ drop end was))) is_head is_IsBody
+    let front = take-put_mid 0 3 was head 3 (omega arith) (omega arith) in
+    let past = 3 + length cs - 3 in
+    let headed = put_mid 0 3 was head in
+    let behind : drop past (drop 3 headed) ≡ drop end was = drop-drop past 3 headed ∙ drop-put_mid 0 3 was head (3 + past) (omega arith) (omega arith) (omega arith) ∙ ap (λ n. drop n was) (omega arith) in
+    ap₂ (λ a b. a ++ (body ++ b)) front behind ∙ ap₂ (λ h b. h ++ (b ++ drop end was)) is_head is_body
 
 -- what holds of a letter of each kind holds of that of a code
 letter_cases : (P : Letter → Type 0) (code : ℕ) → (code < 16 → P (Call code)) → (16 ≤ code → code < 32 → P (Return (code - 16))) → (32 ≤ code → P (Internal (code - 32))) → P (letter_of code)
@@ -70,9 +77,9 @@ module _ (names : List Name) where
   letter_fits room used code free = (grind (arith, nat_tests), grind (arith, nat_tests), grind (arith, nat_tests))
 
   -- One letter, as the code judges it and writes it.
-  module _ (k code used : ℕ) (was : List ℕ) where
+  module _ (k code : ℕ) (was : List ℕ) where
     abbrev fault : Option ℕ
-    fault = letter_fault names (length was) used code
+    fault = letter_fault names (length was) 0 code
 
     module _ (at : At) (here : at ≡ record { file = Record; place = k }) where
       -- it has the fault n, which is told, and nothing is written
@@ -91,20 +98,52 @@ module _ (names : List Name) where
         unfolding letter_fault
         unlisted h = let (low, tag, number) = letter_parts code l letter in faulty 19 (grind (arith, nat_tests))
 
-        pub no_room : (name : Name) → (name_of l < length names) × (name ≡ get_or names (name_of l) []) → min (length was) 65535 < used + 3 + length name → Faulty 21
+        pub no_room : (name : Name) → (name_of l < length names) × (name ≡ get_or names (name_of l) []) → min (length was) 65535 < 3 + length name → Faulty 21
         unfolding letter_fault
         no_room name named h =
             let (low, tag, number) = letter_parts code l letter in
             let long = ap length (named.1 ∙ ap (λ n. get_or names n []) number) in
             faulty 21 (grind (arith, nat_tests))
 
-    pub letter_put : (l : Letter) → letter_at code ≡ Some l → (name : Name) → (name_of l < length names) × (name ≡ get_or names (name_of l) []) → (now : List ℕ) → used + 3 + length name ≤ min (length was) 65535 → now ≡ with_field was used (piece (tag_in l) name) → LetterWritten names k code used was now (Ok (used + 3 + length name))
+    pub letter_put : (l : Letter) → letter_at code ≡ Some l → (name : Name) → (name_of l < length names) × (name ≡ get_or names (name_of l) []) → (now : List ℕ) → 3 + length name ≤ min (length was) 65535 → now ≡ with_field was 0 (piece (tag_in l) name) → LetterWritten names k code 0 was now (Ok (3 + length name))
     unfolding letter_fault
     letter_put l letter name named now fits put =
         let (low, tag, number) = letter_parts code l letter in
         let here : name ≡ get_or names (code % 16) [] = named.1 ∙ ap (λ n. get_or names n []) number in
         let long = ap length here in
-        (grind (arith, nat_tests), omega arith, put ∙ ap₂ (λ t cs. with_field was used (piece t cs)) tag here)
+        (grind (arith, nat_tests), omega arith, put ∙ ap₂ (λ t cs. with_field was 0 (piece t cs)) tag here)
+
+  -- A letter written behind `used` bytes, into what is left of the first `room` bytes of the buffer.
+  module _ (k code used room : ℕ) (now part : List ℕ) (most : room ≡ min (length now) 65535) (within : used ≤ room) where
+    abbrev left : List ℕ
+    left = mid_of used (room - used) now
+
+    left_long : length left ≡ room - used
+    left_long = length-take-le (room - used) (drop used now) (omega (arith, length-drop used now))
+
+    same_fault : letter_fault names (length left) 0 code ≡ letter_fault names (length now) used code
+    unfolding letter_fault
+    same_fault =
+        let long = left_long in
+        let n = length (written (field_in names code)) in
+        let room_left : ltb (min (length left) 65535) (0 + n) ≡ ltb (min (length now) 65535) (used + n) = ⊎_elim
+        (λ lt. lt-ltb _ _ lt ∙ sym (lt-ltb _ _ (omega arith)))
+        (λ le. le-ltb _ _ le ∙ sym (le-ltb _ _ (omega arith)))
+        (cases_lt (min (length left) 65535) (0 + n)) in
+        ap (λ b. cond (ltb 47 code) (Some 1) (cond (leb (length names) (code % 16)) (Some 19) (cond b (Some 21) None))) room_left
+
+    pub letter_behind : (n : ℕ) → LetterWritten names k code 0 left part (Ok n) → LetterWritten names k code used now (put_mid used (room - used) now part) (Ok (used + n))
+    letter_behind n w =
+        let f = field_in names code in
+        let m = length (written f) in
+        let xs = drop used now in
+        let long = left_long in
+        let fits : m ≤ room - used = let h = (letter_fits (length left) 0 code w.0).2 in omega arith in
+        let rest : drop (0 + m) left ++ drop (room - used) xs ≡ drop (used + m) now = drop_both m (room - used) xs fits ∙ drop-drop m used now in
+        (sym same_fault ∙ w.0, omega (arith, w.1), ap (λ p. put_mid used (room - used) now p) w.2 ∙ ap (λ z. take used now ++ z) (append_assoc (written f) (drop (0 + m) left) (drop (room - used) xs) ∙ ap (λ z. written f ++ z) rest))
+
+    pub none_behind : (e : Fault) → LetterWritten names k code 0 left part (Err e) → LetterWritten names k code used now (put_mid used (room - used) now part) (Err e)
+    none_behind e w = (ap is_some (sym same_fault) ∙ w.0, w.1 ∙ ap (record_fault k) same_fault, ap (λ p. put_mid used (room - used) now p) w.2 ∙ put_same used (room - used) now)
 
   spelled_more : (codes : List ℕ) (i : ℕ) → i < length codes → spelled names (take (i + 1) codes) ≡ spelled names (take i codes) ++ written (field_in names (get_or codes i 0))
   spelled_more codes i h =
@@ -113,18 +152,17 @@ module _ (names : List Name) where
   -- the first i letters stand at the front of the buffer, without fault
   pub record WrittenSoFar (codes was : List ℕ) (i used : ℕ) (now : List ℕ) : Type 0 where
     pub reached : used ≡ length (spelled names (take i codes))
-    pub short : used ≤ 65535
+    pub short : used ≤ min (length was) 65535
     pub before : (k : ℕ) → k < i → fault_at names (length was) codes k ≡ None
     pub buffer : now ≡ spelled names (take i codes) ++ drop used was
-    pub list : 0 < i → listable names ≡ true
 
   module _ (codes was : List ℕ) where
     module _ (i used : ℕ) (now : List ℕ) (f : WrittenSoFar codes was i used now) where
       fault_here : length now ≡ length was → fault_at names (length was) codes i ≡ letter_fault names (length now) used (get_or codes i 0)
       fault_here long = ap₂ (λ room n. letter_fault names room n (get_or codes i 0)) (sym long) (sym f.reached)
 
-      pub so_far_more : (n : ℕ) (now' : List ℕ) → i < length codes → length now ≡ length was → LetterWritten names i (get_or codes i 0) used now now' (Ok n) → listable names ≡ true → WrittenSoFar codes was (i + 1) n now'
-      so_far_more n now' within long w list =
+      pub so_far_more : (n : ℕ) (now' : List ℕ) → i < length codes → length now ≡ length was → LetterWritten names i (get_or codes i 0) used now now' (Ok n) → WrittenSoFar codes was (i + 1) n now'
+      so_far_more n now' within long w =
           let bytes = written (field_in names (get_or codes i 0)) in
           let front = spelled names (take i codes) in
           let more = spelled_more codes i within in
@@ -137,12 +175,19 @@ module _ (names : List Name) where
             short = omega arith;
             before = below_more _ i f.before (fault_here long ∙ w.0);
             buffer = w.2 ∙ ap₂ (λ a b. a ++ (bytes ++ b)) taken behind ∙ sym (ap (λ a. a ++ drop n was) more ∙ append_assoc front bytes (drop n was));
-            list = λ _. list;
           }
+
+      pub stops_here : (e : Fault) (now' : List ℕ) → i < length codes → length now ≡ length was → LetterWritten names i (get_or codes i 0) used now now' (Err e) → Writes names codes was now' (Err e)
+      stops_here e now' within long w = record {
+        count = i;
+        before = f.before;
+        buffer = w.2 ∙ f.buffer ∙ ap (λ n. spelled names (take i codes) ++ drop n was) f.reached;
+        answer = (within, ap is_some (fault_here long) ∙ w.0, w.1 ∙ ap (record_fault i) (sym (fault_here long)));
+      }
 
       module _ (end : i ≡ length codes) where
         all : take i codes ≡ codes
         all = take_all i codes (omega arith)
 
-        pub reads_whole : ReadsBack names codes
-        reads_whole = reads_back names codes (λ some. f.list (omega arith)) (λ k h. let (low, listed, fits) = letter_fits _ _ (get_or codes k 0) (f.before k (omega arith)) in (low, listed)) (let long = f.reached ∙ ap (λ cs. length (spelled names cs)) all in omega (arith, f.short))
+        pub reads_whole : listable names ≡ true → ReadsBack names codes
+        reads_whole list = reads_back names codes list (λ k h. let (low, listed, fits) = letter_fits _ _ (get_or codes k 0) (f.before k (omega arith)) in (low, listed)) (let long = f.reached ∙ ap (λ cs. length (spelled names cs)) all in omega (arith, f.short))

@@ -15,7 +15,7 @@ use std::error::Error;
 use std::fmt;
 
 /// Why a record was not checked: the file has a fault, or a letter of it was refused.
-#[derive(Clone, Copy, PartialEq, Debug)]
+#[derive(Clone, Copy, PartialEq, Eq, Hash, Debug)]
 pub enum Unchecked {
     Faulty(Fault),
     Refused(Stop),
@@ -61,7 +61,7 @@ pub fn check_record<M: Machine>(
     codes: &mut [u8],
     marks: &mut [Mark<M::State>],
 ) -> Result<Standing, Unchecked>
-    ensures { Checks (M.Machine.meaning machine.now) names.now bytes.now codes.old codes.new marks.old marks.new result }
+    ensures { Checks (M.Machine.meaning machine.now) names.now.names bytes.now codes.old codes.new marks.old marks.new result }
 {
     let count = read_record(names, bytes, codes)?;
     Ok(follow_word(machine, &codes[0..count], marks)?)

@@ -1,6 +1,5 @@
 // Writing a record.
-ghost use Rattle.std.specs.Prelude.{◌≡◌, ◌+◌, ◌≤◌, true, length, OnOk};
-ghost use Rattle.name_list.specs.Names.{listable};
+ghost use Rattle.std.specs.Prelude.{◌≡◌, ◌+◌, ◌≤◌, length, OnOk};
 ghost use Rattle.nested.specs.Letters.{name_of};
 ghost use Rattle.records.specs.Records.{ReadsBack, Writes};
 ghost use Rattle.records.specs.Writing.{LetterWritten, head_bytes, piece, tag_in, with_field};
@@ -19,15 +18,14 @@ fn field_head(tag: u8, length: usize) -> [u8; 3]
     [tag, high, low]
 }
 
-// Writes a field behind the first `used` bytes, where there is room for it.
-fn put_field(out: &mut [u8], used: usize, tag: u8, contents: &[u8])
-    requires room { used + (3 + length contents.now) ≤ length out.old }
+// Writes a field at the front of a buffer that has room for it.
+fn put_field(out: &mut [u8], tag: u8, contents: &[u8])
+    requires room { 3 + length contents.now ≤ length out.old }
     requires short { length contents.now ≤ 65535 }
-    ensures { out.new ≡ with_field out.old used (piece tag contents.now) }
+    ensures { out.new ≡ with_field out.old 0 (piece tag contents.now) }
 {
-    let behind = used + 3;
-    out[used..behind].copy_from_slice(&field_head(tag, contents.len()));
-    out[behind..behind + contents.len()].copy_from_slice(contents);
+    out[..3].copy_from_slice(&field_head(tag, contents.len()));
+    out[3..3 + contents.len()].copy_from_slice(contents);
 }
 
 // The tag of a letter's field, and the number of its name.
@@ -42,17 +40,11 @@ fn tag_and_number(letter: Letter) -> (u8, u8)
     }
 }
 
-// Writes the letter with this index behind the first `used` bytes, and answers where its bytes end, or what is wrong with it.
-fn put_letter(
-    names: &NameList,
-    index: usize,
-    code: u8,
-    used: usize,
-    out: &mut [u8],
-) -> Result<usize, Fault>
-    requires { used ≤ 65535 }
-    ensures written { LetterWritten names.now index code used out.old out.new result }
-    ensures list { OnOk result (listable names.now ≡ true) }
+// Writes the letter with this index at the front of what is left of the buffer, and answers how many bytes it has, or what is wrong
+// with it.
+fn put_letter(names: &NameList, index: usize, code: u8, left: &mut [u8]) -> Result<usize, Fault>
+    requires { length left.old ≤ 65535 }
+    ensures { LetterWritten names.now.names index code 0 left.old left.new result }
 {
     let at = File::Record.at(index);
     let Ok(letter) = Letter::try_from(code) else {
@@ -62,12 +54,12 @@ fn put_letter(
     let Some(name) = names.name(usize::from(number)) else {
         return Err(Fault::Unlisted(at));
     };
-    let end = used + 3 + name.len();
-    if end > out.len().min(LONGEST_RECORD) {
+    let length = 3 + name.len();
+    if length > left.len() {
         return Err(Fault::NoRoom(at));
     }
-    put_field(out, used, tag, name);
-    Ok(end)
+    put_field(left, tag, name);
+    Ok(length)
 }
 
 /// Writes letters as a record at the front of a buffer, and answers how many bytes it has.
@@ -77,12 +69,14 @@ fn put_letter(
 /// record would have more than 65,535 bytes. The bytes of the letters before it then stand in the buffer. The rest of the buffer is
 /// as it was in either case.
 pub fn write_record(names: &NameList, codes: &[u8], out: &mut [u8]) -> Result<usize, Fault>
-    ensures writes { Writes names.now codes.now out.old out.new result }
-    ensures reads_back { OnOk result (ReadsBack names.now codes.now) }
+    ensures writes { Writes names.now.names codes.now out.old out.new result }
+    ensures reads_back { OnOk result (ReadsBack names.now.names codes.now) }
 {
+    // A loop, since the closure of a `try_fold` would write to `out`, and a proof then knows nothing of what the chain comes to.
+    let room = out.len().min(LONGEST_RECORD);
     let mut used = 0;
     for (index, code) in codes.iter().enumerate() {
-        used = put_letter(names, index, *code, used, out)?;
+        used += put_letter(names, index, *code, &mut out[used..room])?;
     }
     Ok(used)
 }

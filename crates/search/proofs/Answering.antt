@@ -1,5 +1,5 @@
 -- What one call answers, with rows of the lengths at opening.
-use Rattle.std.proofs.Common.{◌≡◌, ℕ, zero, suc, ◌+◌, ◌-◌, ◌<◌, ◌≤◌, min, Bool, true, false, cond, ltb, ◌⊎◌, List, [], ◌∷◌, length, Some, None, Ok, Err, vec_items, Result, sym, refl, ap, ◌∙◌, subst, inl, inr, ⊎_elim, arith}
+use Rattle.std.proofs.Common.{◌≡◌, ℕ, zero, suc, ◌+◌, ◌-◌, ◌<◌, ◌≤◌, min, Bool, true, false, cond, ltb, ◌⊎◌, List, [], ◌∷◌, length, Some, None, Ok, Err, vec_items, Option, Result, sym, refl, ap, ◌∙◌, subst, inl, inr, ⊎_elim, arith}
 use Rattle.std.proofs.lemmas.Bool.{cases_Bool, cases_lt, cond_both, cond-false, cond-true, ltb-true}
 use Rattle.nested.specs.Automata.{Automaton}
 use Rattle.nested.specs.Reading.{Satisfies}
@@ -105,13 +105,10 @@ module _ {S : Type 0} where
         hands_none now (Err NotFound) (is, same) = same
         hands_none now (Err (TooLong n)) (is, _) = let e = sym told_none ∙ is in (cc)
 
-    -- what follows from an answer, with the kept rows and with others
+    -- what follows from an answer
     module _ (Q : List ℕ → Result ℕ Unwritten → Type 0) (so : (now : List ℕ) (r : Result ℕ Unwritten) → GivesWord b was now r → Q now r) where
-      pub also_word : (a : Answer) → IfHanded (λ r now. GivesWord b was now r) a → IfHanded (λ r now. Q now r) a
-      also_word = also_handed (λ r now. GivesWord b was now r) (λ r now. Q now r) (λ r now. so now r)
-
-      pub also_word_with : (other : Rows S) (a : Answer) → IfHanded (λ r now. GivesWordWith b other was now r) a → IfHanded (λ r now. cond (brings b other) (Q now r) (RowsRefused was r now)) a
-      also_word_with other = also_handed (λ r now. GivesWordWith b other was now r) (λ r now. cond (brings b other) (Q now r) (RowsRefused was r now))
+      pub also_word : (other : Option (Rows S)) (a : Answer) → IfHanded (λ r now. GivesWordWith b other was now r) a → IfHanded (λ r now. cond (brings b other) (Q now r) (RowsRefused was r now)) a
+      also_word other = also_handed (λ r now. GivesWordWith b other was now r) (λ r now. cond (brings b other) (Q now r) (RowsRefused was r now))
           (λ r now. along (brings b other) (GivesWord b was now r) (RowsRefused was r now) (Q now r) (RowsRefused was r now) (so now r) (λ refused. refused))
 
   module _ (A : Automaton S) where

@@ -1,13 +1,12 @@
 -- What entering items does to a board.
-use Rattle.std.proofs.Common.{◌≡◌, ℕ, zero, suc, ◌+◌, ◌-◌, ◌<◌, ◌≤◌, Bool, true, false, cond, ◌||◌, ap₂, ltb, List, [], ◌∷◌, ◌++◌, length, get_or, take, set, sym, refl, ap, ◌∙◌, subst, add-zero, suc-add, zero-add, arith}
-use Rattle.std.specs.List.{list_any}
+use Rattle.std.proofs.Common.{◌≡◌, ℕ, zero, suc, ◌+◌, ◌-◌, ◌<◌, ◌≤◌, Bool, true, false, cond, ltb, List, [], ◌∷◌, ◌++◌, length, get_or, take, set, sym, refl, ap, ◌∙◌, subst, add-zero, suc-add, zero-add, arith}
 use Rattle.std.proofs.lemmas.List.{append_assoc, append-nil, get_or_default}
 use Rattle.std.proofs.lemmas.Bool.{cond-false, cond-true, le-ltb, lt-ltb}
 use Rattle.nested.specs.Automata.{Automaton}
 use Rattle.items.specs.Makings.{first_item}
 use Rattle.items.specs.declared.item.Item.{Item}
 use Rattle.search.specs.Boards.{Fitting}
-use Rattle.search.specs.Model.{Board, each, enter, enter_all, is_final, listed, moved_to, places, same_item}
+use Rattle.search.specs.Model.{Board, each, enter, enter_all, is_final, listed, moved_to, places}
 use Rattle.search.specs.declared.worklist.Candidate.{Candidate}
 use Rattle.search.specs.declared.verdict.Verdict.{Verdict}
 use Rattle.search.specs.declared.verdict.Verdict.TheVariants as verdict
@@ -78,12 +77,6 @@ put_with v b c = record {
 }
 
 module _ {S : Type 0} (A : Automaton S) (eq : S → S → Bool) where
-  -- the items of a list, tested one by one
-  pub listed_any : (xs : List (Item S)) (x : Item S) (same : Item S → Bool) → ((y : Item S) → same y ≡ same_item A eq y x) → listed A eq xs x ≡ list_any same xs
-  unfolding listed
-  listed_any [] x same is = refl
-  listed_any (y ∷ ys) x same is = ap₂ ◌||◌ (sym (is y)) (listed_any ys x same is)
-
   -- entering one item, by cases
   module _ (b : Board S) (c : Candidate S) where
     abbrev known : Bool

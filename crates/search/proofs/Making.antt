@@ -1,6 +1,6 @@
 -- Makings in rows that agree, and the items that right makings derive.
 use Rattle.std.proofs.Common.{◌≡◌, ℕ, ◌+◌, ◌%◌, ◌<◌, ◌≤◌, List, length, get_or, take, sym, ap, ◌∙◌, subst, ap₂, ⊎_elim, arith}
-use Rattle.std.proofs.ByRecursion.{All-from_get_or}
+use Rattle.std.proofs.lemmas.List.Elements.{All-from_get_or, recursion_from_All}
 use Rattle.std.proofs.lemmas.List.{get_or_default, get_or-take, length-take-le}
 use Rattle.std.proofs.lemmas.Bool.{cases_eq}
 use Rattle.nested.specs.Automata.{Automaton}
@@ -75,7 +75,7 @@ module _ {S : Type 0} (A : Automaton S) where
       let read : (k : ℕ) (e : Item S) → k < n → get_or (take n items) k e ≡ get_or items k d = λ k e lt. get_or-take n items k e lt ∙ get_or_default items k e d (omega arith) in
       record {
         some = take n items;
-        derivable = All-from_get_or (IsDerivable A) (take n items) d (λ k lt. subst (IsDerivable A) (sym (read k d (omega arith))) (made_derivable A items makings n right k (omega arith)));
+        derivable = recursion_from_All (IsDerivable A) (take n items) (All-from_get_or (IsDerivable A) (take n items) d (λ k lt. subst (IsDerivable A) (sym (read k d (omega arith))) (made_derivable A items makings n right k (omega arith))));
         distinct = λ j k e below within same. distinct j k below (omega arith) (sym (read j e (omega arith)) ∙ same ∙ read k e (omega arith));
         more = omega arith;
       }

@@ -1,5 +1,5 @@
 -- Lists of calls, performed one after the other: what they answer is true.
-use Rattle.std.proofs.Common.{◌≡◌, ℕ, ◌+◌, Bool, cond, List, [], ◌∷◌, ◌++◌, vec_items, Result, sym, refl, ap, ◌∙◌, subst, ap₂, ⊎_elim}
+use Rattle.std.proofs.Common.{◌≡◌, ℕ, ◌+◌, Bool, cond, List, [], ◌∷◌, ◌++◌, vec_items, Option, Result, sym, refl, ap, ◌∙◌, subst, ap₂, ⊎_elim}
 use Rattle.std.proofs.lemmas.List.{append_assoc, append-nil}
 use Rattle.std.proofs.lemmas.Bool.{and_from, cases_Bool, cond-false, cond-true, eq-eqb}
 use Rattle.nested.specs.Automata.{Automaton}
@@ -19,7 +19,7 @@ use Rattle.search.specs.declared.call.Rows.{Rows}
 use Rattle.search.specs.declared.unwritten.Unwritten.{Unwritten}
 use Rattle.search.specs.declared.verdict.Verdict.{Verdict}
 use Rattle.search.specs.declared.verdict.Verdict.TheVariants as verdict
-use Rattle.search.proofs.Answering.{OwnRows, advances, along, also_advanced, also_opened, also_word, also_word_with, either_way, found_from, hands_none, hands_out, if_advanced, own_word, true_word, turned_on}
+use Rattle.search.proofs.Answering.{OwnRows, advances, along, also_advanced, also_opened, also_word, either_way, found_from, hands_none, hands_out, if_advanced, own_word, true_word, turned_on}
 use Rattle.search.proofs.Entering.{enter_grows}
 use Rattle.search.proofs.Said.{ready, said_found, said_full, said_none, said_running}
 use Rattle.search.proofs.Turns.{final_stays}
@@ -55,7 +55,7 @@ module _ {S : Type 0} (A : Automaton S) (eq : S → S → Bool) where
     unmoved : (n : ℕ) (after : Board S) (r : Result ℕ Refusal) → Advances b A eq n after r → after ≡ b
     unmoved n after r is = let (turned, _) = advances A eq b own n after r is in turned ∙ final_stays A eq n b (ap is_final found)
 
-    unmoved_with : (n : ℕ) (other : Rows S) (after : Board S) (r : Result ℕ Refusal) → AdvancesWith b A eq n other after r → after ≡ b
+    unmoved_with : (n : ℕ) (other : Option (Rows S)) (after : Board S) (r : Result ℕ Refusal) → AdvancesWith b A eq n other after r → after ≡ b
     unmoved_with n other after r = either_way (brings b other) (Advances b A eq n after r) ((after ≡ b) × TurnsRefused r) (λ _ is. unmoved n after r is) (λ _ (same, _). same)
 
     hands : (was now : List ℕ) (r : Result ℕ Unwritten) → GivesWord b was now r → HandsOut (own_word b) was now r
@@ -66,18 +66,13 @@ module _ {S : Type 0} (A : Automaton S) (eq : S → S → Bool) where
     stays r [] rs all = tt
     stays r (c ∷ cs) [] all = tt
     stays r (call.Open rows ∷ cs) (a ∷ rs) all = tt
-    stays r (call.Advance n ∷ cs) (a ∷ rs) (after, is, on) =
-        stays r cs rs (performed_from b after cs rs (if_advanced (Advances b A eq n after) (unmoved n after) a is) on)
-    stays r (call.AdvanceWith n other ∷ cs) (a ∷ rs) (after, is, on) =
+    stays r (call.Advance n other ∷ cs) (a ∷ rs) (after, is, on) =
         stays r cs rs (performed_from b after cs rs (if_advanced (AdvancesWith b A eq n other after) (unmoved_with n other after) a is) on)
     stays r (call.Verdict ∷ cs) (a ∷ rs) (after, (same, is), on) =
         (subst (IfSaid (λ v. v ≡ verdict.Found)) (sym is) found, stays r cs rs (performed_from b after cs rs same on))
-    stays r (call.Word buffer ∷ cs) (a ∷ rs) (after, (same, is), on) =
+    stays r (call.Word buffer other ∷ cs) (a ∷ rs) (after, (same, is), on) =
         let was = vec_items buffer in
-        (also_word b was (HandsOut (own_word b) was) (hands was) a is, stays r cs rs (performed_from b after cs rs same on))
-    stays r (call.WordWith buffer other ∷ cs) (a ∷ rs) (after, (same, is), on) =
-        let was = vec_items buffer in
-        (also_word_with b was (HandsOut (own_word b) was) (hands was) other a is, stays r cs rs (performed_from b after cs rs same on))
+        (also_word b was (HandsOut (own_word b) was) (hands was) other a is, stays r cs rs (performed_from b after cs rs same on))
 
   -- calls lead to this search, with what came since the latest opening
   record SinceReached (after : Board S) (s : Since) : Type 0 where
@@ -113,15 +108,13 @@ module _ {S : Type 0} (A : Automaton S) (eq : S → S → Bool) where
     true_answer cs rs (call.Open rows) a after (is, says) on =
         let s = since b r in
         also_opened (λ p. p ≡ places after.at) (λ p. p ≡ room (behind s (call.Open rows))) (λ p e. e ∙ ap (λ d. places d.at) is ∙ ap room (opened_since s rows)) a says
-    true_answer cs rs (call.Advance n) a after is on = also_advanced (Advances b A eq n after) (TurnsDone n) (says_turns n after) a is
-    true_answer cs rs (call.AdvanceWith n other) a after is on =
+    true_answer cs rs (call.Advance n other) a after is on =
         let t = brings b other in
         also_advanced (AdvancesWith b A eq n other after) (λ answer. cond t (TurnsDone n answer) (TurnsRefused answer))
         (λ answer. along t (Advances b A eq n after answer) ((after ≡ b) × TurnsRefused answer) (TurnsDone n answer) (TurnsRefused answer) (says_turns n after answer) (λ (_, refused). refused)) a is
     true_answer cs rs call.Verdict a after (same, is) on =
         subst (IfSaid (TrueVerdict A (since b r) cs rs)) (sym is) (says_verdict cs rs (performed_from b after cs rs same on) b.at.verdict refl)
-    true_answer cs rs (call.Word buffer) a after (same, is) on = let was = vec_items buffer in also_word b was (TrueWord A was) (says_word was) a is
-    true_answer cs rs (call.WordWith buffer other) a after (same, is) on = let was = vec_items buffer in also_word_with b was (TrueWord A was) (says_word was) other a is
+    true_answer cs rs (call.Word buffer other) a after (same, is) on = let was = vec_items buffer in also_word b was (TrueWord A was) (says_word was) other a is
 
     -- calls lead to what it leaves behind
     reached_same : (after : Board S) → after ≡ b → SinceReached after (since b r)
@@ -143,14 +136,12 @@ module _ {S : Type 0} (A : Automaton S) (eq : S → S → Bool) where
       reached = subst (λ d. Reached A eq d 0) (sym is) (Reached.open_again b r (vec_items rows.items) (vec_items rows.makings) reached);
       is = ap (λ d. since d 0) is ∙ opened_since (since b r) rows;
     }
-    reached_behind (call.Advance n) a after is = if_advanced (Advances b A eq n after) (reached_turns n after) a is
-    reached_behind (call.AdvanceWith n other) a after is =
+    reached_behind (call.Advance n other) a after is =
         if_advanced (AdvancesWith b A eq n other after) (λ answer. either_way (brings b other) (Advances b A eq n after answer) ((after ≡ b) × TurnsRefused answer)
         (λ e given. subst (SinceReached after) (sym (cond-true (brings b other) _ _ e)) (reached_turns n after answer given))
         (λ e (same, _). subst (SinceReached after) (sym (cond-false (brings b other) _ _ e)) (reached_same after same))) a is
     reached_behind call.Verdict a after (same, _) = reached_same after same
-    reached_behind (call.Word buffer) a after (same, _) = reached_same after same
-    reached_behind (call.WordWith buffer other) a after (same, _) = reached_same after same
+    reached_behind (call.Word buffer other) a after (same, _) = reached_same after same
 
   module _ (law : Lawful eq) where
     -- the law, from any search that calls lead to

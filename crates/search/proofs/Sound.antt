@@ -1,7 +1,7 @@
 -- What entering keeps true of a board, while every candidate follows from the items entered before it.
 use Rattle.std.proofs.Common.{◌≡◌, ℕ, ◌+◌, ◌-◌, ◌<◌, ◌≤◌, Bool, true, false, cond, List, [], ◌∷◌, ◌++◌, length, take, set, sym, refl, ap, ◌∙◌, subst, ⊎_elim, arith}
 use Rattle.std.specs.List.{AllByRecursion}
-use Rattle.std.proofs.ByRecursion.{All-weaker}
+use Rattle.std.proofs.lemmas.List.Elements.{All-from_recursion, All-weaker, recursion_from_All}
 use Rattle.std.proofs.lemmas.List.{length_push, length-take-le}
 use Rattle.std.proofs.lemmas.Bool.{cases_eq, cond-true}
 use Rattle.nested.specs.Automata.{Automaton}
@@ -138,6 +138,6 @@ module _ {S : Type 0} (A : Automaton S) where
         let b₁ = enter A eq b c in
         let b₂ = enter_all A eq b₁ cs in
         let (sound₁, in₁) = enter_does b c sound follows.0 in
-        let (sound₂, in₂) = enter_all_does b₁ cs sound₁ (All-weaker (Follows b) (Follows b₁) (λ x. follows_grows b b₁ x (enter_grows A eq b c)) cs follows.1) in
+        let (sound₂, in₂) = enter_all_does b₁ cs sound₁ (recursion_from_All (Follows b₁) cs (All-weaker (Follows b) (Follows b₁) (λ x. follows_grows b b₁ x (enter_grows A eq b c)) cs (All-from_recursion (Follows b) cs follows.1))) in
         let grows = enter_all_grows A eq b₁ cs in
         (sound₂, λ e. (present_grows b₁ b₂ c.new grows (in₁ (sym (grows.still (subst Going (sym e) tt)) ∙ e)), in₂ e))

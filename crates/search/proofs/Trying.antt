@@ -1,7 +1,6 @@
 -- What a turn tries: candidates that follow from items of the row, and all that follow from the item of the turn and those before it.
 use Rattle.std.proofs.Common.{◌≡◌, ℕ, zero, suc, ◌+◌, ◌%◌, ◌<◌, ◌≤◌, Bool, true, false, cond, List, [], ◌∷◌, ◌++◌, sym, refl, ap, ◌∙◌, subst, ap₂, ⊎_elim, mod-eq_of_lt, arith}
 use Rattle.std.specs.List.{AllByRecursion}
-use Rattle.std.proofs.ByRecursion.{All-append}
 use Rattle.std.proofs.lemmas.Bool.{cases_eq, cond_both}
 use Rattle.nested.specs.Automata.{Automaton}
 use Rattle.nested.specs.declared.letter.Letter.TheVariants as letter
@@ -18,10 +17,14 @@ use Rattle.search.specs.Reached.{Lawful}
 use Rattle.search.proofs.Making.{call_item, internal_item, pending_item, return_item}
 
 module _ {X : Type 0} (P : X → Type 0) where
+  append_all : (xs ys : List X) → AllByRecursion P xs → AllByRecursion P ys → AllByRecursion P (xs ++ ys)
+  append_all [] ys h k = k
+  append_all (x ∷ xs) ys h k = (h.0, append_all xs ys h.1 k)
+
   each_from : (from count : ℕ) (f : ℕ → List X) → ((k : ℕ) → k < from + count → AllByRecursion P (f k)) → AllByRecursion P (each from count f)
   unfolding each
   each_from from zero f h = tt
-  each_from from (suc count) f h = All-append P (f from) (each (suc from) count f) (h from (omega arith)) (each_from (suc from) count f (λ k lt. h k (omega arith)))
+  each_from from (suc count) f h = append_all (f from) (each (suc from) count f) (h from (omega arith)) (each_from (suc from) count f (λ k lt. h k (omega arith)))
 
   append_parts : (xs ys : List X) → AllByRecursion P (xs ++ ys) → AllByRecursion P xs × AllByRecursion P ys
   append_parts [] ys h = (tt, h)
@@ -94,13 +97,13 @@ module _ {S : Type 0} (A : Automaton S) (eq : S → S → Bool) (law : Lawful eq
 
     pub candidates_follow : (i : ℕ) → i < n → AllByRecursion From (candidates A eq items i)
     candidates_follow i lt =
-        All-append From (by_internal A eq items i) _ (each_from From 0 16 (internals i) (λ a less. ((lt, ap (internal_item A (in_row i)) (sym (mod-eq_of_lt less))), tt)))
-        (All-append From (by_pending A eq items i) _
+        append_all From (by_internal A eq items i) _ (each_from From 0 16 (internals i) (λ a less. ((lt, ap (internal_item A (in_row i)) (sym (mod-eq_of_lt less))), tt)))
+        (append_all From (by_pending A eq items i) _
         (cond_both (is_base (in_row i).level) _ _ (AllByRecursion From)
         (λ base. each_from From 0 16 (pendings i) (λ b less. ((lt, base_from (in_row i).level base, ap (pending_item A (in_row i)) (sym (mod-eq_of_lt less))), tt)))
         (λ _. tt))
-        (All-append From (by_call A eq items i) _ (each_from From 0 16 (calls i) (λ a less. ((lt, ap (call_item A (in_row i)) (sym (mod-eq_of_lt less))), tt)))
-        (All-append From (second_matches i) _
+        (append_all From (by_call A eq items i) _ (each_from From 0 16 (calls i) (λ a less. ((lt, ap (call_item A (in_row i)) (sym (mod-eq_of_lt less))), tt)))
+        (append_all From (second_matches i) _
         (each_from From 0 i (λ j. matches j i) (λ j less. matches_follow j i (omega arith) lt))
         (each_from From 0 (suc i) (matches i) (λ j less. matches_follow i j lt (omega arith))))))
 

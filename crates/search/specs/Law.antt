@@ -1,5 +1,5 @@
 -- The law over a list of calls and their answers.
-use Rattle.std.specs.Prelude.{◌≡◌, ℕ, ◌+◌, ◌≤◌, min, Bool, cond, ◌&&◌, List, [], ◌∷◌, Ok, Err, vec_items, vec_len, Result, ◌==◌}
+use Rattle.std.specs.Prelude.{◌≡◌, ℕ, ◌+◌, ◌≤◌, min, Bool, true, cond, ◌&&◌, List, [], ◌∷◌, Some, None, Ok, Err, vec_items, vec_len, Option, Result, ◌==◌}
 use Rattle.nested.specs.Automata.{Automaton}
 use Rattle.nested.specs.Following.{number}
 use Rattle.nested.specs.Reading.{Satisfies}
@@ -36,18 +36,21 @@ abbrev requests : ℕ → Since → Since
 requests n s = record { items = s.items; makings = s.makings; requested = s.requested + n }
 
 module _ {S : Type 0} where
-  -- rows of the lengths at opening
-  abbrev pub fits : Since → Rows S → Bool
-  fits s rows = vec_len rows.items == s.items && vec_len rows.makings == s.makings
+  -- where a call brings rows, they have these lengths
+  abbrev pub have : ℕ → ℕ → Option (Rows S) → Bool
+  have items makings None = true
+  have items makings (Some rows) = vec_len rows.items == items && vec_len rows.makings == makings
+
+  -- a call has rows of the lengths at opening
+  abbrev pub fits : Since → Option (Rows S) → Bool
+  fits s = have s.items s.makings
 
   -- behind a call; one that is refused requests nothing
   abbrev pub behind : Since → Call S → Since
   behind s (call.Open rows) = record { items = vec_len rows.items; makings = vec_len rows.makings; requested = 0 }
-  behind s (call.Advance n) = requests n s
-  behind s (call.AdvanceWith n rows) = cond (fits s rows) (requests n s) s
+  behind s (call.Advance n rows) = cond (fits s rows) (requests n s) s
   behind s call.Verdict = s
-  behind s (call.Word buffer) = s
-  behind s (call.WordWith buffer rows) = s
+  behind s (call.Word buffer rows) = s
 
 -- The answer is one of this kind, and this holds of what it says.
 abbrev pub IfOpened : (ℕ → Type 0) → Answer → Type 0
@@ -94,11 +97,9 @@ module _ {S : Type 0} where
   Stays w s [] rs = Unit {0}
   Stays w s (c ∷ cs) [] = Unit {0}
   Stays w s (call.Open rows ∷ cs) (a ∷ rs) = Unit {0}
-  Stays w s (call.Advance n ∷ cs) (a ∷ rs) = Stays w s cs rs
-  Stays w s (call.AdvanceWith n rows ∷ cs) (a ∷ rs) = Stays w s cs rs
+  Stays w s (call.Advance n rows ∷ cs) (a ∷ rs) = Stays w s cs rs
   Stays w s (call.Verdict ∷ cs) (a ∷ rs) = IfSaid (λ v. v ≡ verdict.Found) a × Stays w s cs rs
-  Stays w s (call.Word buffer ∷ cs) (a ∷ rs) = IfHanded (λ r now. HandsOut w (vec_items buffer) now r) a × Stays w s cs rs
-  Stays w s (call.WordWith buffer rows ∷ cs) (a ∷ rs) = IfHanded (λ r now. cond (fits s rows) (HandsOut w (vec_items buffer) now r) (RowsRefused (vec_items buffer) r now)) a × Stays w s cs rs
+  Stays w s (call.Word buffer rows ∷ cs) (a ∷ rs) = IfHanded (λ r now. cond (fits s rows) (HandsOut w (vec_items buffer) now r) (RowsRefused (vec_items buffer) r now)) a × Stays w s cs rs
 
 module _ {S : Type 0} (A : Automaton S) where
   -- What a verdict says is true: none, no word satisfies the question; found, this word does, and up to the next opening it is the one;
@@ -112,11 +113,9 @@ module _ {S : Type 0} (A : Automaton S) where
   -- what holds of the answer to a call, with the calls and answers behind it
   abbrev pub TrueAnswer : Since → List (Call S) → List Answer → Call S → Answer → Type 0
   TrueAnswer s cs rs (call.Open rows) = IfOpened (λ p. p ≡ room (behind s (call.Open rows)))
-  TrueAnswer s cs rs (call.Advance n) = IfAdvanced (TurnsDone n)
-  TrueAnswer s cs rs (call.AdvanceWith n rows) = IfAdvanced (λ r. cond (fits s rows) (TurnsDone n r) (TurnsRefused r))
+  TrueAnswer s cs rs (call.Advance n rows) = IfAdvanced (λ r. cond (fits s rows) (TurnsDone n r) (TurnsRefused r))
   TrueAnswer s cs rs call.Verdict = IfSaid (TrueVerdict s cs rs)
-  TrueAnswer s cs rs (call.Word buffer) = IfHanded (λ r now. TrueWord A (vec_items buffer) now r)
-  TrueAnswer s cs rs (call.WordWith buffer rows) = IfHanded (λ r now. cond (fits s rows) (TrueWord A (vec_items buffer) now r) (RowsRefused (vec_items buffer) r now))
+  TrueAnswer s cs rs (call.Word buffer rows) = IfHanded (λ r now. cond (fits s rows) (TrueWord A (vec_items buffer) now r) (RowsRefused (vec_items buffer) r now))
 
   -- The law: each call has an answer, and each answer is true.
   unfoldable pub Law : Since → List (Call S) → List Answer → Type 0

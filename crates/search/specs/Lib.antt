@@ -7,3 +7,4 @@ pub mod Promise
 pub mod Law
 pub mod Performing
 pub mod Asking
+pub mod Texts

@@ -12,22 +12,18 @@ pub struct Rows<S> {
     pub makings: Vec<Making>,
 }
 
-/// One call of a search. Where a call brings no rows of its own, it brings those of the latest opening, as the search left them; before
-/// any opening these are empty.
+/// One call of a search. Advancing and asking for the word may bring other rows. Where a call brings none, or rows of the lengths at
+/// opening, it has the rows of the latest opening, as the search left them; before any opening these are empty.
 #[derive(Drop)]
 pub enum Call<S> {
     /// Opens the search with these rows.
     Open(Rows<S>),
     /// Advances by so many turns.
-    Advance(usize),
-    /// Advances by so many turns with other rows. Where they have the lengths of those at opening, it is as `Advance`.
-    AdvanceWith(usize, Rows<S>),
+    Advance(usize, Option<Rows<S>>),
     /// Asks for the verdict.
     Verdict,
     /// Asks for the word, in this buffer.
-    Word(Vec<u8>),
-    /// Asks for the word with other rows. Where they have the lengths of those at opening, it is as `Word`.
-    WordWith(Vec<u8>, Rows<S>),
+    Word(Vec<u8>, Option<Rows<S>>),
 }
 
 /// The answer to a call.

@@ -19,6 +19,7 @@ use std::marker::PhantomData;
 
 impl<S> Search<S> {
     /// A search that was never opened: it is as one opened with empty rows.
+    // no `Default` beside it: that is a second name for this value, and nothing takes a default search
     pub fn new() -> Search<S>
         ensures { result.at ≡ unopened }
     {
@@ -84,6 +85,7 @@ impl<S> Search<S> {
         ensures board { Advances (board self.old.at items.old makings.old) (M.meaning question.now) S.eq n (board self.new.at items.new makings.new) result }
         ensures carries { AdvancesOn (M.meaning question.now) S.eq (board self.old.at items.old makings.old) n (board self.new.at items.new makings.new) result }
     {
+        // `word` asks this too: each has its own error for it, and a shared check would only hand that over
         if !self.at.fits_rows(items.len(), makings.len()) {
             return Err(Refusal::RowLength);
         }

@@ -20,10 +20,7 @@ impl<M: Machine> Worklist<'_, '_, '_, M> {
     pub(crate) fn enter(&mut self, candidate: Candidate<M::State>)
         ensures { Leads self.old self.new (λ A eq b. enter A eq b candidate) }
     {
-        if self.at.verdict.is_final() {
-            return;
-        }
-        if self.is_listed(&candidate.new) {
+        if self.at.verdict.is_final() || self.is_listed(&candidate.new) {
             return;
         }
         let entered = self.at.entered;
@@ -34,11 +31,9 @@ impl<M: Machine> Worklist<'_, '_, '_, M> {
         self.items[entered] = candidate.new;
         self.makings[entered] = candidate.made;
         self.at.entered = entered + 1;
-        self.at.verdict = if self.question.accepts(candidate.new.present) {
-            Verdict::Found
-        } else {
-            Verdict::Running
-        };
+        if self.question.accepts(candidate.new.present) {
+            self.at.verdict = Verdict::Found;
+        }
     }
 
     // Enters what is made of each name in turn, until the verdict is final.

@@ -27,9 +27,8 @@ impl<M: Machine> Worklist<'_, '_, '_, M> {
         }
         self.enter_each(move |name| Candidate {
             new: Item {
-                level: before.level,
-                entry: before.entry,
                 present: question.ret(inside.present, before.present, opened, name),
+                ..before
             },
             made: Making {
                 how: How::Matched {

@@ -1,6 +1,5 @@
 // Lists of calls, performed one after the other.
-ghost use Rattle.std.specs.Prelude.{◌≡◌, IfOk};
-ghost use Rattle.search.specs.Calls.{Advances, GivesWord};
+ghost use Rattle.std.specs.Prelude.{◌≡◌, Some, IfOk};
 ghost use Rattle.search.specs.Law.{Law, at_first};
 ghost use Rattle.search.specs.Performing.{AdvancesWith, Answered, GivesWordWith, brings, kept_board};
 
@@ -21,62 +20,48 @@ struct Kept<S> {
 impl<S> Kept<S> {
     // Whether other rows have the lengths at opening.
     fn fits(&self, other: &Rows<S>) -> bool
-        ensures { result ≡ brings (kept_board self.now) other.now }
+        ensures { result ≡ brings (kept_board self.now) (Some other.now) }
     {
         self.search
             .at
             .fits_rows(other.items.len(), other.makings.len())
     }
 
-    // Advances with the rows that are kept.
-    fn advance<M: Machine<State = S>>(&mut self, question: &M, n: usize) -> Result<usize, Refusal>
-        ensures { Advances (kept_board self.old) (M.meaning question.now) S.eq n (kept_board self.new) result }
-    {
-        self.search
-            .advance(question, &mut self.rows.items, &mut self.rows.makings, n)
-    }
-
-    // Advances with other rows; where they have the lengths at opening, with those that are kept. To pick the rows first is no plainer: that
-    // is a `&mut` to one of two places, one of them beside the search.
-    fn advance_with<M: Machine<State = S>>(
+    // Advances: with other rows, where they have not the lengths at opening; else with those that are kept. The rows are not picked first, as
+    // `word` does: that is a `&mut` to one of two places, and the proof does not close, since the borrow checker does not cover the join.
+    fn advance<M: Machine<State = S>>(
         &mut self,
         question: &M,
         n: usize,
-        mut other: Rows<S>,
+        other: Option<Rows<S>>,
     ) -> Result<usize, Refusal>
         ensures { AdvancesWith (kept_board self.old) (M.meaning question.now) S.eq n other (kept_board self.new) result }
     {
-        if self.fits(&other) {
-            self.advance(question, n)
-        } else {
-            self.search
-                .advance(question, &mut other.items, &mut other.makings, n)
+        match other {
+            Some(mut other) if !self.fits(&other) => {
+                self.search
+                    .advance(question, &mut other.items, &mut other.makings, n)
+            }
+            _ => self
+                .search
+                .advance(question, &mut self.rows.items, &mut self.rows.makings, n),
         }
     }
 
-    // Asks for the word with the rows that are kept.
-    fn word<M: Machine<State = S>>(&self, question: &M, out: &mut [u8]) -> Result<usize, Unwritten>
-        ensures { GivesWord (kept_board self.now) out.old out.new result }
-    {
-        self.search
-            .word(question, &self.rows.items, &self.rows.makings, out)
-    }
-
-    // Asks for the word with other rows; where they have the lengths at opening, with those that are kept.
-    fn word_with<M: Machine<State = S>>(
+    // Asks for the word: of other rows, where they have not the lengths at opening; else of those that are kept.
+    fn word<M: Machine<State = S>>(
         &self,
         question: &M,
         out: &mut [u8],
-        other: &Rows<S>,
+        other: Option<Rows<S>>,
     ) -> Result<usize, Unwritten>
-        ensures { GivesWordWith (kept_board self.now) other.now out.old out.new result }
+        ensures { GivesWordWith (kept_board self.now) other out.old out.new result }
     {
-        if self.fits(other) {
-            self.word(question, out)
-        } else {
-            self.search
-                .word(question, &other.items, &other.makings, out)
-        }
+        let rows = match &other {
+            Some(other) if !self.fits(other) => other,
+            _ => &self.rows,
+        };
+        self.search.word(question, &rows.items, &rows.makings, out)
     }
 
     // Performs one call, and answers it.
@@ -90,15 +75,10 @@ impl<S> Kept<S> {
                     .open(question, &mut self.rows.items, &mut self.rows.makings);
                 Answer::Opened(self.search.at.places())
             }
-            Call::Advance(n) => Answer::Advanced(self.advance(question, n)),
-            Call::AdvanceWith(n, other) => Answer::Advanced(self.advance_with(question, n, other)),
+            Call::Advance(n, other) => Answer::Advanced(self.advance(question, n, other)),
             Call::Verdict => Answer::Said(self.search.verdict()),
-            Call::Word(mut out) => {
-                let word = self.word(question, &mut out);
-                Answer::Handed(word, out)
-            }
-            Call::WordWith(mut out, other) => {
-                let word = self.word_with(question, &mut out, &other);
+            Call::Word(mut out, other) => {
+                let word = self.word(question, &mut out, other);
                 Answer::Handed(word, out)
             }
         }

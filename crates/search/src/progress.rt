@@ -7,7 +7,7 @@ use crate::verdict::Verdict;
 
 /// How far a search has come: the verdict, the turns done since opening, the items entered, and the lengths of the rows at opening, which
 /// stay here because the caller lends the rows to each call anew.
-#[derive(Clone, Copy)]
+#[derive(Clone, Copy, PartialEq, Eq, Hash, Debug)]
 pub struct Progress {
     pub verdict: Verdict,
     pub turns: usize,
@@ -32,13 +32,10 @@ impl Progress {
         requires { self.turns < self.entered }
         ensures { result ≡ after_turn self }
     {
-        if self.verdict.is_final() {
-            return self.verdict;
-        }
-        if self.turns + 1 == self.entered {
+        if self.verdict == Verdict::Running && self.turns + 1 == self.entered {
             Verdict::None
         } else {
-            Verdict::Running
+            self.verdict
         }
     }
 

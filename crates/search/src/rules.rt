@@ -18,18 +18,9 @@ impl<M: Machine> Worklist<'_, '_, '_, M> {
     {
         let question = self.question;
         let from = self.items[number];
-        self.enter_each(|name| Candidate {
-            new: Item {
-                level: from.level,
-                entry: from.entry,
-                present: question.internal(from.present, name),
-            },
-            made: Making {
-                how: How::Stepped {
-                    from: number,
-                    letter: Letter::Internal(name),
-                },
-            },
+        self.enter_each(|name| {
+            let present = question.internal(from.present, name);
+            Candidate::stepped(number, from, present, Letter::Internal(name))
         });
     }
 
@@ -43,18 +34,9 @@ impl<M: Machine> Worklist<'_, '_, '_, M> {
         if from.level != Level::Base {
             return;
         }
-        self.enter_each(|name| Candidate {
-            new: Item {
-                level: Level::Base,
-                entry: from.entry,
-                present: question.pending(from.present, name),
-            },
-            made: Making {
-                how: How::Stepped {
-                    from: number,
-                    letter: Letter::Return(name),
-                },
-            },
+        self.enter_each(|name| {
+            let present = question.pending(from.present, name);
+            Candidate::stepped(number, from, present, Letter::Return(name))
         });
     }
 

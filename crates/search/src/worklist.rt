@@ -1,9 +1,14 @@
-// The worklist of a search, and what may be entered in it. The methods are in other files, since their contracts speak of the struct.
+// The worklist of a search, and what may be entered in it. Its methods are in other files, since their contracts speak of the struct.
+ghost use Rattle.std.specs.Prelude.{◌≡◌};
+ghost use Rattle.items.specs.Items.{item};
+ghost use Rattle.items.specs.declared.making.How.TheVariants.{Stepped};
 ghost use Rattle.search.specs.Boards.{Fitting, board};
+ghost use Rattle.search.specs.Model.{candidate};
 
 use crate::progress::Progress;
 use items::item::Item;
-use items::making::Making;
+use items::making::{How, Making};
+use nested::letter::Letter;
 use nested::machine::Machine;
 
 // An item that may be entered, and how it is made.
@@ -11,6 +16,23 @@ use nested::machine::Machine;
 pub(crate) struct Candidate<S> {
     pub(crate) new: Item<S>,
     pub(crate) made: Making,
+}
+
+impl<S: Copy> Candidate<S> {
+    // What a letter behind an item makes of it: the same entry state, on the same level.
+    pub(crate) fn stepped(number: usize, from: Item<S>, present: S, letter: Letter) -> Candidate<S>
+        ensures { result ≡ candidate (item from.level from.entry present) (Stepped number letter) }
+    {
+        Candidate {
+            new: Item { present, ..from },
+            made: Making {
+                how: How::Stepped {
+                    from: number,
+                    letter,
+                },
+            },
+        }
+    }
 }
 
 // A search at work: its question, how far it has come, and the rows that the caller lends it. Each reference has a lifetime of its own,

@@ -21,7 +21,7 @@ pub fn check_with_sheet(
     codes: &mut [u8],
     marks: &mut [Mark<SheetState>],
 ) -> Result<Standing, Unchecked>
-    ensures { ChecksByRuns (described sheet.now) names.now bytes.now codes.old codes.new marks.old marks.new result }
+    ensures { ChecksByRuns (described sheet.now) names.now.names bytes.now codes.old codes.new marks.old marks.new result }
 {
     check_record(names, bytes, sheet, codes, marks)
 }

@@ -1,7 +1,7 @@
 // The moves of a sheet.
 
 /// One thing that a run of the automaton may do. States are from 0 to 7, names and marks from 0 to 15.
-#[derive(Clone, Copy, PartialEq, Eq, Debug)]
+#[derive(Clone, Copy, Debug, PartialEq, Eq, Hash)]
 pub enum Move {
     /// Reads an internal letter.
     Internal {

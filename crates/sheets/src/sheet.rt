@@ -1,4 +1,4 @@
-// Sheets, and how they step.
+// Sheets, with all their numbers in range.
 ghost use Rattle.std.specs.Prelude.{◌≡◌, ◌^◌, ◌<◌, ◌≤◌, true, vec_len};
 ghost use Rattle.sheets.specs.Moves.{all_in_range};
 
@@ -6,7 +6,7 @@ use crate::moves::Move;
 
 /// An automaton on nested words that may choose: 1 to 8 states, a set of start states and one of accepting states as masks with bit `q`
 /// for the state `q`, and at most 256 moves.
-#[derive(Drop)]
+#[derive(Debug, Drop)]
 pub struct Sheet {
     pub states: u8,
     pub start: u8,

@@ -9,7 +9,10 @@ use std::ops::BitOrAssign;
 ///
 /// `states` has bit `q` for each state `q` that a run can be in now. `pairs` has bit `8 p + q` for each pair of states such that a run
 /// that is in `p` behind the latest open call, or at the start of the word where none is open, can be in `q` now.
-#[derive(Clone, Copy, Default, PartialEq, Eq, Debug)]
+///
+/// The default is the state in which no run can be anywhere.
+// The sets are masks: a machine's state is copied, and one shift moves every member of a set.
+#[derive(Clone, Copy, Debug, Default, PartialEq, Eq, Hash)]
 pub struct SheetState {
     pub pairs: u64,
     pub states: u8,

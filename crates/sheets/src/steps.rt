@@ -3,14 +3,15 @@ ghost use Rattle.std.specs.Prelude.{◌≡◌, ℕ, ◌%◌, ◌<◌, [], ◌∷
 ghost use Rattle.sheets.specs.Loops.{AddsUp};
 ghost use Rattle.sheets.specs.Steps.{StepsOn, by_inner, by_letter, by_return, joined, nowhere, onward};
 
+use crate::bounded::BoundedMove;
 use crate::moves::Move;
 use crate::sheet::Sheet;
 use crate::state::SheetState;
-use crate::step::Step;
 use nested::letter::Letter;
 
-impl Step {
+impl BoundedMove {
     // What the move adds to a step by a letter; a return is one with no open call.
+    // Matching the letter once, outside of the loop over the moves, would take three such functions, and was measured to be no faster.
     fn read(self, letter: Letter, state: SheetState) -> SheetState
         ensures { result ≡ onward state (by_letter (self.of ∷ []) letter) }
     {
@@ -58,14 +59,14 @@ impl Step {
 }
 
 impl Sheet {
-    // What the moves add, in all.
-    fn along<F: Fn(Step) -> SheetState>(&self, adds: F) -> SheetState
+    // What the moves add, in all. A step of a sheet is a plain `for` loop over its moves: its invariant is what those so far add.
+    fn along<F: Fn(BoundedMove) -> SheetState>(&self, adds: F) -> SheetState
         requires { F.IsAlwaysCallable adds }
         ensures { AddsUp (F.post adds) self.now.moves.items result }
     {
         let mut reached = SheetState::default();
-        for step in self.moves.iter() {
-            reached |= adds(Step { of: *step });
+        for one in self.moves.iter() {
+            reached |= adds(BoundedMove { of: *one });
         }
         reached
     }
@@ -74,7 +75,7 @@ impl Sheet {
     pub(crate) fn read(&self, letter: Letter, state: SheetState) -> SheetState
         ensures { result ≡ onward state (by_letter self.now.moves.items letter) }
     {
-        self.along(|step| step.read(letter, state))
+        self.along(|one| one.read(letter, state))
     }
 
     // By a call named `opened` and the letters behind it, for each mark that the call can have laid. `along` would be no plainer here: it
@@ -88,8 +89,8 @@ impl Sheet {
         ensures { (m : ℕ) → m < 16 → slice_index_or result m nowhere ≡ onward before (by_inner self.now.moves.items state.pairs (opened % 16) m) }
     {
         let mut row = [SheetState::default(); 16];
-        for step in self.moves.iter() {
-            Step { of: *step }.enter(&mut row, opened, before, state);
+        for one in self.moves.iter() {
+            BoundedMove { of: *one }.enter(&mut row, opened, before, state);
         }
         row
     }
@@ -98,6 +99,6 @@ impl Sheet {
     pub(crate) fn left(&self, name: u8, row: &[SheetState; 16]) -> SheetState
         ensures { StepsOn row.now result (λ t. by_return self.now.moves.items t (name % 16)) }
     {
-        self.along(|step| step.leave(row, name))
+        self.along(|one| one.leave(row, name))
     }
 }

@@ -21,13 +21,13 @@ returns-in_err-field c =
 pub returns-in_err-name : goal.returns-in_err-name
 returns-in_err-name c =
     let p = err_from_is_err_and c.from_residual-in_err-name.result c.from_residual-in_err-name.ensures.1 in
-    let h = c.in_err-name.ensures in
+    let h = rw c.deref.ensures.value at c.in_err-name.ensures in
     let stands = subst (λ b. Stands b c.loop-names.fields.place c.in-Some.field c.next.new.self.place) c.loop-names.invariant.1 (MatchOption-at_some _ _ c.in-Some.field c.in-Some.is c.in_ok-field.ensures.field) in
     rw (p.1, p.2) (inr (none_fault c.args.bytes.now c.loop-names.fields.place (names_of c.loop-names.names) c.loop-names.invariant.2 c.in-Some.field c.next.new.self.place c.in_err-name.field-0.0 stands h.0 h.1))
 
 pub loop-names-preserved : goal.loop-names-preserved
 loop-names-preserved c =
-    let n = c.in_ok-name.ensures in
+    let n = rw c.deref.ensures.value at c.in_ok-name.ensures in
     let stands = subst (λ b. Stands b c.loop-names.fields.place c.in-Some.field c.next.new.self.place) c.loop-names.invariant.1 (MatchOption-at_some _ _ c.in-Some.field c.in-Some.is c.in_ok-field.ensures.field) in
     let more = so_far_more c.args.bytes.now c.loop-names.fields.place (names_of c.loop-names.names) c.loop-names.invariant.2 c.in-Some.field c.next.new.self.place c.in_ok-name.name.now stands n.0 n.1 in (
       c.next.ensures.file ∙ c.loop-names.invariant.0,

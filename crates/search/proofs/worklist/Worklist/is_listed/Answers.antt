@@ -1,5 +1,5 @@
 use Rattle.std.proofs.Common.{sym, ◌∙◌, rules}
-use Rattle.search.proofs.Boards.{listed_any}
+use Rattle.search.proofs.Listing.{listed_any}
 use Rattle.search.proofs.worklist.Worklist.is_listed.Goals as goal
 
 pub returns : goal.returns

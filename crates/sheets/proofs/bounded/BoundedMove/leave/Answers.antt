@@ -1,7 +1,7 @@
 use Rattle.std.proofs.Common.{◌%◌, rules}
 use Rattle.sheets.proofs.Visits.{leave_none, leave_return, not_return}
-use Rattle.sheets.proofs.step.Step.leave.Goals as goal
-use Rattle.sheets.proofs.step.Step.leave.Goals.{in_default-via-in-Return+else-read-name, in_default-via-in_default}
+use Rattle.sheets.proofs.bounded.BoundedMove.leave.Goals as goal
+use Rattle.sheets.proofs.bounded.BoundedMove.leave.Goals.{in_default-via-in-Return+else-read-name, in_default-via-in_default}
 
 pub returns-in-Return : goal.returns-in-Return
 returns-in-Return c = leave_return c.args.row.now (c.args.name % 16) c.args.self.of _ c.in-Return.from c.in-Return.read c.in-Return.mark c.in-Return.to c.from.result _ c.in-Return.is (search rules) (search rules) c.from.ensures (search rules) c.if-read-name.true c.moved.ensures

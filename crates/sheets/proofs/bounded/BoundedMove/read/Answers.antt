@@ -1,7 +1,7 @@
 use Rattle.std.proofs.Common.{ap, rules}
 use Rattle.sheets.proofs.Edges.{from_of, led, not_call, not_internal, not_pending, to_of, unled}
-use Rattle.sheets.proofs.step.Step.read.Goals as goal
-use Rattle.sheets.proofs.step.Step.read.Goals.{in-Internal-Internal, in-Internal-Internal-2, in-Internal-Internal-3, in_default-via-in-Internal+in_default, in_default-via-in-Call+in_default, in_default-via-in-Return+in_default, in_default-via-in-Internal-Internal+else-name-read}
+use Rattle.sheets.proofs.bounded.BoundedMove.read.Goals as goal
+use Rattle.sheets.proofs.bounded.BoundedMove.read.Goals.{in-Internal-Internal, in-Internal-Internal-2, in-Internal-Internal-3, in_default-via-in-Internal+in_default, in_default-via-in-Call+in_default, in_default-via-in-Return+in_default, in_default-via-in-Internal-Internal+else-name-read}
 
 pub returns-in-Internal-Internal : goal.returns-in-Internal-Internal
 returns-in-Internal-Internal c =
