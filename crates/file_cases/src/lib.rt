@@ -3,7 +3,7 @@
 
 #[cfg(test)]
 mod tests {
-    use fields::fault::{Fault, File};
+    use fields::fault::{Fault, File, Told};
     use machines::depth::Depth;
     use machines::names::Names;
     use name_list::list::NameList;
@@ -18,14 +18,7 @@ mod tests {
     use std::process::Abort;
     use std::test::Fail;
 
-    // A fault's number, file and place; none where there was no memory.
-    fn told(fault: Fault) -> Option<(u8, File, usize)> {
-        fault
-            .told()
-            .map(|told| (told.number, told.file, told.place))
-    }
-
-    // The list that a file of names loads to.
+    // The list that a file of names loads to. Memory is handed on beside the handle that asserts, which has none to give.
     fn list_of(bytes: &[u8], heap: Global) -> Result<NameList, Fault> {
         let mut list = NameList::new(heap);
         list.load(bytes, heap)?;
@@ -92,12 +85,8 @@ mod tests {
     const ALLOWED: [u8; 65] = *b"abcdefghijklmnopqrstuvwxyzABCDEFGHIJKLMNOPQRSTUVWXYZ0123456789_-.";
 
     // What loading a file comes to: how many names there are then, or what the fault tells.
-    fn load(
-        list: &mut NameList,
-        bytes: &[u8],
-        heap: Global,
-    ) -> Result<usize, Option<(u8, File, usize)>> {
-        list.load(bytes, heap).map_err(told)?;
+    fn load(list: &mut NameList, bytes: &[u8], heap: Global) -> Result<usize, Option<Told>> {
+        list.load(bytes, heap).map_err(Fault::told)?;
         Ok(list.len())
     }
 
@@ -110,7 +99,11 @@ mod tests {
         place: usize,
         heap: Global,
     ) {
-        let fault = Some((number, File::Names, place));
+        let fault = Some(Told {
+            number,
+            file: File::Names,
+            place,
+        });
         assert_eq!(rt; (load(list, bytes, heap), bytes), (Err(fault), bytes));
     }
 
@@ -319,8 +312,12 @@ mod tests {
         buffer: &[u8],
         left: &[u8],
     ) {
-        let expected = outcome.map_err(|(number, place)| Some((number, File::Record, place)));
-        assert_eq!(rt; (answer.map_err(told), from), (expected, from));
+        let expected = outcome.map_err(|(number, place)| Some(Told {
+            number,
+            file: File::Record,
+            place,
+        }));
+        assert_eq!(rt; (answer.map_err(Fault::told), from), (expected, from));
         assert_eq!(rt; buffer, left);
     }
 

@@ -17,7 +17,7 @@ const OUT: &str = "the file to write";
 
 const CODE: &str = "a letter code: a number from 0 to 47";
 
-#[derive(Drop)]
+#[derive(Debug, Drop)]
 enum Command<'a> {
     Follow(Shape, Vec<u8>),
     Names(&'a str),
@@ -69,7 +69,7 @@ fn parse<'a>(mut words: Words<'a>, heap: Global) -> Result<Command<'a>, ParseErr
     }
 }
 
-/// Answers a command.
+/// Answers a command, once the whole of it is understood.
 pub fn answer<'a>(words: &'a [&'a str], rt: &HostRuntime) -> Result<(), Failure<'a>> {
     match parse(Words(words.iter()), rt.alloc())? {
         Command::Follow(machine, codes) => answer_follow(machine, &codes, rt),

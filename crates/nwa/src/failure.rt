@@ -6,7 +6,8 @@ use std::alloc::AllocError;
 use std::io;
 use thiserror::Error;
 
-/// Why words were not understood as a command.
+/// Why words were not understood as a command. It is no `Failure`, since a closure that makes an error with a lifetime of its own, as the
+/// parsing of many words takes it, is not covered yet.
 #[derive(Debug, Drop, Error)]
 pub enum ParseError {
     /// They are none: this is expected in place of one of them.

@@ -9,7 +9,7 @@ pub const LIST: &str = "the file of a name list";
 const RECORD: &str = "the file of a record";
 
 /// The file of a name list, and that of a record that is read with it.
-#[derive(Clone, Copy)]
+#[derive(Clone, Copy, PartialEq, Eq, Hash, Debug)]
 pub struct Files<'a> {
     list: &'a str,
     record: &'a str,

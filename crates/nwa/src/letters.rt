@@ -9,7 +9,7 @@ use std::alloc::{AllocError, Global};
 use std::io;
 
 // A name list and the letters of a record that were read with it.
-#[derive(Drop)]
+#[derive(Debug, Drop)]
 struct Record {
     names: NameList,
     codes: Vec<u8>,
@@ -42,7 +42,7 @@ pub fn answer_letters<'a>(files: Files<'a>, rt: &HostRuntime) -> Result<(), Fail
 // The letters with these codes, each with whether it is a call that is never closed: that is told by its place in the word, so the letter
 // itself cannot hold it.
 fn with_unclosed(codes: &[u8], heap: Global) -> Result<Vec<(Letter, bool)>, AllocError> {
-    let mut letters = Vec::with_capacity(heap, codes.len())?;
+    let mut letters = Vec::new(heap);
     let mut returns = 0u64;
     for letter in codes
         .iter()
@@ -71,21 +71,22 @@ fn with_unclosed(codes: &[u8], heap: Global) -> Result<Vec<(Letter, bool)>, Allo
 fn print_word(names: &NameList, letters: &[(Letter, bool)], rt: &HostRuntime) -> io::Result<()> {
     let mut depth = 0usize;
     for (letter, unclosed) in letters {
-        let (kind, name, pending) = match *letter {
-            Letter::Call(name) => ("call", name, *unclosed),
-            Letter::Return(name) => ("return", name, depth == 0),
-            Letter::Internal(name) => ("internal", name, false),
+        let open = depth;
+        let (kind, name, pending, indent) = match *letter {
+            Letter::Call(name) => {
+                depth = open.saturating_add(1);
+                ("call", name, *unclosed, open)
+            }
+            Letter::Return(name) => {
+                depth = open.saturating_sub(1);
+                ("return", name, open == 0, depth)
+            }
+            Letter::Internal(name) => ("internal", name, false, open),
         };
-        if matches!(letter, Letter::Return(_)) {
-            depth = depth.saturating_sub(1);
-        }
-        let indent = depth.saturating_mul(2);
+        let indent = indent.saturating_mul(2);
         let name = text_of(names, usize::from(name));
         let mark = if pending { " (pending)" } else { "" };
         println!(rt; "{:indent$}{kind} {name}{mark}", "")?;
-        if matches!(letter, Letter::Call(_)) {
-            depth = depth.saturating_add(1);
-        }
     }
     Ok(())
 }

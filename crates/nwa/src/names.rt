@@ -14,6 +14,7 @@ pub fn answer_names<'a>(list: &'a str, rt: &HostRuntime) -> Result<(), Failure<'
     let names = load_names(list, rt)?;
     let count = names.len();
     println!(rt; "{count} names")?;
+    // over the numbers, since they are printed, and a list gives its names by number
     for number in 0..count {
         let name = text_of(&names, number);
         println!(rt; "{number} {name}")?;

@@ -14,28 +14,28 @@ const OPERAND: &str = "a machine without a layer of its own but not: names, dept
 const DEPTH: &str = "a number after depth";
 
 /// A machine, or its complement.
-#[derive(Clone, Copy, PartialEq, Eq, Debug)]
+#[derive(Clone, Copy, PartialEq, Eq, Hash, Debug)]
 pub enum Signed<T> {
     Plain(T),
     Not(T),
 }
 
 /// A machine that stands on no other.
-#[derive(Clone, Copy, PartialEq, Eq, Debug)]
+#[derive(Clone, Copy, PartialEq, Eq, Hash, Debug)]
 pub enum Simple {
     Names,
     Depth(u8),
 }
 
 /// How two machines are joined.
-#[derive(Clone, Copy, PartialEq, Eq, Debug)]
+#[derive(Clone, Copy, PartialEq, Eq, Hash, Debug)]
 pub enum Layer {
     Both,
     Either,
 }
 
 /// Two machines, joined.
-#[derive(Clone, Copy, PartialEq, Eq, Debug)]
+#[derive(Clone, Copy, PartialEq, Eq, Hash, Debug)]
 pub struct Two {
     layer: Layer,
     first: Signed<Simple>,
@@ -43,7 +43,7 @@ pub struct Two {
 }
 
 /// The machines that a command can name. An even number of `not` in front of a machine leaves it as it is.
-#[derive(Clone, Copy, PartialEq, Eq, Debug)]
+#[derive(Clone, Copy, PartialEq, Eq, Hash, Debug)]
 pub enum Shape {
     One(Signed<Simple>),
     Two(Signed<Two>),

@@ -24,15 +24,9 @@ impl<'a> Words<'a> {
 
     /// Passes over every `keyword` that comes next, and says whether their number is odd.
     pub fn odd(&mut self, keyword: &str) -> bool {
-        let count = self
-            .0
-            .as_slice()
-            .iter()
-            .take_while(|word| **word == keyword)
-            .count();
-        for _ in 0..count {
-            let _ = self.0.next();
-        }
+        let words = self.0.as_slice();
+        let count = words.iter().take_while(|word| **word == keyword).count();
+        self.0 = words[count..].iter();
         count % 2 == 1
     }
 }

@@ -30,10 +30,8 @@ fn name_number(names: &NameList, part: Part) -> Result<u8, Fault>
     if !has_name_bytes(part.contents) {
         return Err(Fault::Byte(at));
     }
-    match names.find(part.contents) {
-        Some(number) => Ok(number as u8),
-        None => Err(Fault::Unlisted(at)),
-    }
+    let number = names.find(part.contents).ok_or(Fault::Unlisted(at))?;
+    Ok(number as u8)
 }
 
 // The letter of the kind that a field spells, by its tag, with name number 0.
@@ -55,9 +53,7 @@ fn letter_code(names: &NameList, field: Field) -> Result<u8, Fault>
     ensures { Spells names.now.names (piece_of field.entry) (part_of field.entry).place result }
 {
     let part = field.part();
-    let Some(first) = kind(field) else {
-        return Err(Fault::Tag(File::Record.at(part.place)));
-    };
+    let first = kind(field).ok_or(Fault::Tag(File::Record.at(part.place)))?;
     let number = name_number(names, part)?;
     Ok(u8::from(first) + number)
 }

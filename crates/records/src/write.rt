@@ -47,13 +47,9 @@ fn put_letter(names: &NameList, index: usize, code: u8, left: &mut [u8]) -> Resu
     ensures { LetterWritten names.now.names index code 0 left.old left.new result }
 {
     let at = File::Record.at(index);
-    let Ok(letter) = Letter::try_from(code) else {
-        return Err(Fault::NotALetter(at));
-    };
+    let letter = Letter::try_from(code).map_err(|_| Fault::NotALetter(at))?;
     let (tag, number) = tag_and_number(letter);
-    let Some(name) = names.name(usize::from(number)) else {
-        return Err(Fault::Unlisted(at));
-    };
+    let name = names.name(usize::from(number)).ok_or(Fault::Unlisted(at))?;
     let length = 3 + name.len();
     if length > left.len() {
         return Err(Fault::NoRoom(at));
@@ -72,8 +68,8 @@ pub fn write_record(names: &NameList, codes: &[u8], out: &mut [u8]) -> Result<us
     ensures writes { Writes names.now.names codes.now out.old out.new result }
     ensures reads_back { OnOk result (ReadsBack names.now.names codes.now) }
 {
-    // A loop, since the closure of a `try_fold` would write to `out`, and a proof then knows nothing of what the chain comes to.
     let room = out.len().min(LONGEST_RECORD);
+    // A loop, since the closure of a `try_fold` would write to `out`, and a proof then knows nothing of what the chain comes to.
     let mut used = 0;
     for (index, code) in codes.iter().enumerate() {
         used += put_letter(names, index, *code, &mut out[used..room])?;

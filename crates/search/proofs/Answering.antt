@@ -92,7 +92,7 @@ module _ {S : Type 0} where
         hands_out now (Ok n) (_, written) = (written.count, written.short, written.room, written.buffer)
         hands_out now (Err RowLength) (is, _) = let (_, e) = told_long (told RowLength) is in (cc)
         hands_out now (Err NotFound) (is, _) = let (_, e) = told_long (told NotFound) is in (cc)
-        hands_out now (Err (TooLong n)) (is, same) = let (so, e) = told_long (told (TooLong n)) is in ((cc), too_far so, same)
+        hands_out now (Err (TooLong e)) (is, same) = let (so, tells) = told_long (told (TooLong e)) is in ((cc), too_far so, same)
 
       -- where none was found, the buffer is as it was
       module _ (A : Automaton S) (none : is_found b.at.verdict ≡ false) where
@@ -103,7 +103,7 @@ module _ {S : Type 0} where
         hands_none now (Ok n) (is, _) = let e = sym told_none ∙ is in (cc)
         hands_none now (Err RowLength) (is, _) = let e = sym told_none ∙ is in (cc)
         hands_none now (Err NotFound) (is, same) = same
-        hands_none now (Err (TooLong n)) (is, _) = let e = sym told_none ∙ is in (cc)
+        hands_none now (Err (TooLong long)) (is, _) = let e = sym told_none ∙ is in (cc)
 
     -- what follows from an answer
     module _ (Q : List ℕ → Result ℕ Unwritten → Type 0) (so : (now : List ℕ) (r : Result ℕ Unwritten) → GivesWord b was now r → Q now r) where
@@ -116,7 +116,7 @@ module _ {S : Type 0} where
     true_word w satisfies was now (Ok n) is = (w, satisfies, is)
     true_word w satisfies was now (Err RowLength) is = is
     true_word w satisfies was now (Err NotFound) is = absurd is
-    true_word w satisfies was now (Err (TooLong n)) is = (w, satisfies, is)
+    true_word w satisfies was now (Err (TooLong e)) is = (w, satisfies, is)
 
     -- what turns keep, and how many there are at most
     module _ (eq : S → S → Bool) where

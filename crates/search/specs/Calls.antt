@@ -30,7 +30,7 @@ reported p = record { verdict = p.verdict; turns = p.turns; items = p.entered }
 abbrev pub told : Unwritten → List ℕ
 told RowLength = 3 ∷ []
 told NotFound = 4 ∷ []
-told (TooLong n) = 5 ∷ (n ∷ [])
+told (TooLong e) = 5 ∷ (e.length ∷ [])
 
 module _ {S : Type 0} (b : Board S) where
   abbrev same_rows : Bool

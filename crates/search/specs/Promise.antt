@@ -47,7 +47,7 @@ SaysTruly S p v = (A : Automaton S) (eq : S → S → Bool) → Lawful eq → (i
 -- more than the buffer has room for: then its length is told, and the buffer is as it was.
 abbrev pub HandsOut : List Letter → List ℕ → List ℕ → Result ℕ Unwritten → Type 0
 HandsOut w was now (Ok n) = (n ≡ length w) × (n ≤ 1024) × (n ≤ length was) × (now ≡ map code_of w ++ drop n was)
-HandsOut w was now (Err (TooLong e)) = (e ≡ min (length w) 1025) × ((1024 < length w) ⊎ (length was < length w)) × (now ≡ was)
+HandsOut w was now (Err (TooLong e)) = (e.length ≡ min (length w) 1025) × ((1024 < length w) ⊎ (length was < length w)) × (now ≡ was)
 HandsOut w was now (Err NotFound) = ⊥
 HandsOut w was now (Err RowLength) = ⊥
 

@@ -15,4 +15,4 @@ verdict_text verdict.Running = codes "running"
 abbrev pub unwritten_text : Unwritten → List ℕ
 unwritten_text RowLength = codes "a row is not as long as at opening"
 unwritten_text NotFound = codes "no word was found"
-unwritten_text (TooLong n) = too_long_text (record { length = n })
+unwritten_text (TooLong e) = too_long_text e

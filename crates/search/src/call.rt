@@ -6,7 +6,7 @@ use items::making::Making;
 use nested::refusal::Refusal;
 
 /// The rows that a call brings.
-#[derive(Drop)]
+#[derive(Debug, Drop)]
 pub struct Rows<S> {
     pub items: Vec<Item<S>>,
     pub makings: Vec<Making>,
@@ -14,7 +14,7 @@ pub struct Rows<S> {
 
 /// One call of a search. Advancing and asking for the word may bring other rows. Where a call brings none, or rows of the lengths at
 /// opening, it has the rows of the latest opening, as the search left them; before any opening these are empty.
-#[derive(Drop)]
+#[derive(Debug, Drop)]
 pub enum Call<S> {
     /// Opens the search with these rows.
     Open(Rows<S>),
@@ -27,7 +27,7 @@ pub enum Call<S> {
 }
 
 /// The answer to a call.
-#[derive(Drop)]
+#[derive(Debug, Drop)]
 pub enum Answer {
     /// How many places there are.
     Opened(usize),

@@ -41,6 +41,7 @@ impl<M: Machine> Worklist<'_, '_, '_, M> {
         requires callable { F.IsAlwaysCallable make }
         ensures { (made : _) → Computes 16 (F.post make) made → Enters self.old self.new (λ A eq items. each 0 16 (λ name. made name ∷ [])) }
     {
+        // over the names, which are no index; the loop stops early
         for name in 0..16 {
             if self.at.verdict.is_final() {
                 return;

@@ -1,5 +1,6 @@
 // The rule by which a turn makes items of two items: a call, what the second item says of the inside, and a return. It stops once the
-// verdict is final.
+// verdict is final. `first`, `second` and `there` stay clauses, as in rules.rt: they speak of other numbers in each method, and a type for
+// such numbers is no plainer, since it would still need a clause that ties it to the worklist.
 ghost use Rattle.std.specs.Prelude.{◌<◌};
 ghost use Rattle.search.specs.Boards.{Fitting};
 ghost use Rattle.search.specs.Model.{by_match, by_return, each};
@@ -52,6 +53,7 @@ impl<M: Machine> Worklist<'_, '_, '_, M> {
         if inside.level == Level::Base {
             return;
         }
+        // over the names, as in `enter_each`
         for opened in 0..16 {
             if self.at.verdict.is_final() {
                 return;
@@ -66,6 +68,7 @@ impl<M: Machine> Worklist<'_, '_, '_, M> {
         requires there { (k : _) (p : _) → k < count → F.post pair k p → (p.0 < self.old.at.entered) × (p.1 < self.old.at.entered) }
         ensures { (pairs : _) → Computes count (F.post pair) pairs → Enters self.old self.new (λ A eq items. each 0 count (λ k. by_match A eq items (pairs k).0 (pairs k).1)) }
     {
+        // k counts the pairs and is no index; the loop stops early
         for k in 0..count {
             if self.at.verdict.is_final() {
                 return;

@@ -11,7 +11,7 @@ use nested::refusal::Refusal;
 use std::alloc::{AllocError, Global};
 
 // A search, and the rows that are kept for it between calls: those of the latest opening, as the search left them.
-#[derive(Drop)]
+#[derive(Debug, Drop)]
 struct Kept<S> {
     search: Search<S>,
     rows: Rows<S>,

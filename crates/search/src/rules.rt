@@ -1,4 +1,5 @@
-// The rules by which a turn makes items of one item. Each stops once the verdict is final.
+// The rules by which a turn makes items of one item. Each stops once the verdict is final. `there` stays a clause of each: it speaks of
+// another number in each, and a type for such numbers is no plainer, since it would still need a clause that ties it to the worklist.
 ghost use Rattle.std.specs.Prelude.{◌<◌};
 ghost use Rattle.search.specs.Boards.{Fitting};
 ghost use Rattle.search.specs.Model.{by_call, by_internal, by_pending};
@@ -49,6 +50,7 @@ impl<M: Machine> Worklist<'_, '_, '_, M> {
         let from = self.items[number];
         self.enter_each(|name| {
             let inside = question.call(from.present, name);
+            // no constructor beside `stepped`: one that takes the item and the making would only repeat the struct
             Candidate {
                 new: Item {
                     level: Level::Inner,

@@ -8,7 +8,7 @@ use std::marker::PhantomData;
 
 /// A search for a word that a machine with the states `S` accepts. The items, and how each was made, lie in rows that the caller lends
 /// to each call.
-#[derive(Drop)]
+#[derive(Debug, Drop)]
 pub struct Search<S> {
     pub(crate) at: Progress,
     // each call takes a machine with these states, and rows of items over them

@@ -39,6 +39,7 @@ impl<M: Machine> Worklist<'_, '_, '_, M> {
         ensures left { can_go_on self.new.at ≡ true }
         ensures count { self.new.at.turns ≡ self.old.at.turns + result }
     {
+        // counts the turns, which are no index; the loop stops early
         for done in 0..n {
             if self.at.verdict.is_final() {
                 return done;

@@ -14,15 +14,15 @@ pub enum Unwritten {
     RowLength,
     /// The verdict is not found.
     NotFound,
-    /// The word has this many letters, more than 1,024 or than the buffer has places. More than 1,024 letters count as 1,025.
-    TooLong(usize),
+    /// The word is longer than 1,024 letters or than the buffer.
+    TooLong(TooLong),
 }
 
 impl From<TooLong> for Unwritten {
-    ghost from_gives = { λ long why. why ≡ TooLong long.length };
+    ghost from_gives = { λ error why. why ≡ TooLong error };
 
-    fn from(long: TooLong) -> Unwritten {
-        Unwritten::TooLong(long.length)
+    fn from(error: TooLong) -> Unwritten {
+        Unwritten::TooLong(error)
     }
 }
 
@@ -33,7 +33,7 @@ impl fmt::Display for Unwritten {
         match self {
             Unwritten::RowLength => f.write_str("a row is not as long as at opening"),
             Unwritten::NotFound => f.write_str("no word was found"),
-            Unwritten::TooLong(length) => write!(f, "{}", TooLong { length: *length }),
+            Unwritten::TooLong(long) => write!(f, "{long}"),
         }
     }
 }

@@ -12,7 +12,7 @@ use nested::letter::Letter;
 use nested::machine::Machine;
 
 // An item that may be entered, and how it is made.
-#[derive(Clone, Copy)]
+#[derive(Clone, Copy, Debug, PartialEq, Eq)]
 pub(crate) struct Candidate<S> {
     pub(crate) new: Item<S>,
     pub(crate) made: Making,
@@ -37,7 +37,7 @@ impl<S: Copy> Candidate<S> {
 
 // A search at work: its question, how far it has come, and the rows that the caller lends it. Each reference has a lifetime of its own,
 // as the arguments of `open` and `advance` have that they come from.
-#[derive(Drop)]
+#[derive(Debug, Drop)]
 pub(crate) struct Worklist<'q, 'i, 'm, M: Machine> {
     pub(crate) question: &'q M,
     pub(crate) at: Progress,

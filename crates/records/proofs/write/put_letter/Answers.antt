@@ -1,23 +1,33 @@
-use Rattle.std.proofs.Common.{◌∙◌, arith, rules}
+use Rattle.std.proofs.Common.{◌≡◌, None, ◌∙◌, arith, rules}
+use Rattle.std.proofs.lemmas.Option.{MatchOption-at_none, MatchOption-at_some}
+use Rattle.nested.specs.Letters.{letter_at}
 use Rattle.records.proofs.Writing.{letter_put, letter_read, no_room, not_a_letter, unlisted}
 use Rattle.records.proofs.write.put_letter.Goals as goal
 
-pub returns-in_default : goal.returns-in_default
-returns-in_default c =
-    not_a_letter c.args.names.now.names c.args.index c.args.code c.args.left.now _ c.at-at.ensures (search rules)
+pub returns-in_err-letter : goal.returns-in_err-letter
+returns-in_err-letter c =
+    let none : letter_at c.args.code ≡ None = grind (arith, c.try_from.ensures, c.in_err-letter.ensures) in
+    let told = not_a_letter c.args.names.now.names c.args.index c.args.code c.args.left.now _ c.at-at.ensures none in
+    search rules
 
-pub returns-in_default-name : goal.returns-in_default-name
-returns-in_default-name c =
+pub returns-in_err-name : goal.returns-in_err-name
+returns-in_err-name c =
+    let letter = letter_read c.args.code _ c.in_ok-letter.letter c.try_from.ensures.value (search rules) in
     let number = c.from.ensures ∙ c.tag_and_number-tag.ensures.number in
-    let past = c.in_default-name.ensures in
-    unlisted c.args.names.now.names c.args.index c.args.code c.args.left.now _ c.at-at.ensures c.in-Ok.letter (letter_read c.args.code _ c.in-Ok.letter c.try_from.ensures.value c.in-Ok.is) (omega arith)
+    let past = MatchOption-at_none _ _ c.in_err-name.ensures.ok_part c.name.ensures in
+    let told = unlisted c.args.names.now.names c.args.index c.args.code c.args.left.now _ c.at-at.ensures c.in_ok-letter.letter letter (omega arith) in
+    search rules
 
 pub returns-then-length-left : goal.returns-then-length-left
 returns-then-length-left c =
+    let letter = letter_read c.args.code _ c.in_ok-letter.letter c.try_from.ensures.value (search rules) in
     let number = c.from.ensures ∙ c.tag_and_number-tag.ensures.number in
-    no_room c.args.names.now.names c.args.index c.args.code c.args.left.now _ c.at-at.ensures c.in-Ok.letter (letter_read c.args.code _ c.in-Ok.letter c.try_from.ensures.value c.in-Ok.is) c.in-Some.name.now (rw number at c.in-Some.ensures) (omega arith)
+    let named = MatchOption-at_some _ _ c.in_ok-name.name c.in_ok-name.ensures.ok_part c.name.ensures in
+    no_room c.args.names.now.names c.args.index c.args.code c.args.left.now _ c.at-at.ensures c.in_ok-letter.letter letter c.in_ok-name.name.now (rw number at named) (omega arith)
 
 pub returns : goal.returns
 returns c =
+    let letter = letter_read c.args.code _ c.in_ok-letter.letter c.try_from.ensures.value (search rules) in
     let number = c.from.ensures ∙ c.tag_and_number-tag.ensures.number in
-    letter_put c.args.names.now.names c.args.index c.args.code c.args.left.now c.in-Ok.letter (letter_read c.args.code _ c.in-Ok.letter c.try_from.ensures.value c.in-Ok.is) c.in-Some.name.now (rw number at c.in-Some.ensures) c.put_field.new.out (omega arith) (rw c.tag_and_number-tag.ensures.tag at c.put_field.ensures)
+    let named = MatchOption-at_some _ _ c.in_ok-name.name c.in_ok-name.ensures.ok_part c.name.ensures in
+    letter_put c.args.names.now.names c.args.index c.args.code c.args.left.now c.in_ok-letter.letter letter c.in_ok-name.name.now (rw number at named) c.put_field.new.out (omega arith) (rw c.tag_and_number-tag.ensures.tag at c.put_field.ensures)
