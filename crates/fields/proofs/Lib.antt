@@ -1,4 +1,3 @@
-pub mod Cases
 pub mod Fronts
 pub mod Here
 pub mod Orders

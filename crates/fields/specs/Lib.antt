@@ -2,5 +2,4 @@ pub mod Fields
 pub mod Faults
 pub mod Outcomes
 pub mod Parts
-pub mod Tags
 pub mod Texts

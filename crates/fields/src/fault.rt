@@ -149,7 +149,7 @@ impl fmt::Display for Fault {
 
 impl Error for Fault {}
 
-// Of either error of std that says that there was no memory.
+// Of every error that `AllocError` is made from; those of std say that there was no memory.
 impl<E: Drop> From<E> for Fault
 where
     AllocError: From<E>,

@@ -1,19 +1,12 @@
 // One field of a file.
-ghost use Rattle.std.specs.Prelude.{◌≡◌, false};
-ghost use Rattle.fields.specs.Tags.{known_tag};
+ghost use Rattle.std.specs.Prelude.{◌≡◌};
+ghost use Rattle.fields.specs.Parts.{field_of, part_of, tag_of};
 
 /// A part of a file that holds a field's contents, and the offset of the field's tag.
 #[derive(Clone, Copy, PartialEq, Eq, Hash, Debug)]
 pub struct Part<'a> {
     pub place: usize,
     pub contents: &'a [u8],
-}
-
-/// A tag that no case of `Field` has for its own. It is a struct, since a case of an enum cannot say that.
-#[derive(Clone, Copy, PartialEq, Eq, Hash, Debug)]
-pub struct OtherTag {
-    pub number: u8,
-    pub ghost other: { known_tag number ≡ false },
 }
 
 /// A field, by its tag: 1 a call, 2 a return, 3 an internal letter, 16 a name of a name list. Any other tag comes with its number.
@@ -23,26 +16,22 @@ pub enum Field<'a> {
     Return(Part<'a>),
     Internal(Part<'a>),
     Name(Part<'a>),
-    Other(OtherTag, Part<'a>),
+    Other(u8, Part<'a>),
 }
 
 impl<'a> Field<'a> {
-    ghost use Rattle.std.specs.Prelude.{◌≡◌};
-    ghost use Rattle.fields.specs.Parts.{part_of, tag_of};
-    ghost use Rattle.fields.specs.declared.field.Field.{Field};
-
-    /// The only field with this tag and this part.
+    /// The field with this tag and this part, in the tag's own case if it has one.
     pub fn with_tag(tag: u8, part: Part<'a>) -> Field<'a>
+        ensures case { result ≡ field_of tag part.entry }
         ensures tag { tag_of result ≡ tag }
         ensures part { part_of result ≡ part.entry }
-        ensures only { (f : Field) → tag_of f ≡ tag → part_of f ≡ part.entry → f ≡ result }
     {
         match tag {
             1 => Field::Call(part),
             2 => Field::Return(part),
             3 => Field::Internal(part),
             16 => Field::Name(part),
-            number => Field::Other(OtherTag { number }, part),
+            _ => Field::Other(tag, part),
         }
     }
 

@@ -4,6 +4,7 @@
 #[cfg(test)]
 mod tests {
     use fields::fault::{Fault, File, Told};
+    use fields::field::{Field, Part};
     use machines::depth::Depth;
     use machines::names::Names;
     use name_list::list::NameList;
@@ -139,6 +140,21 @@ mod tests {
         assert!(rt; named(&list, number, last));
         assert!(rt; list.name(number + 1).is_none());
         assert_eq!(rt; list.find(last), Some(number));
+    }
+
+    // A field may be written out with any tag, one that has a case of its own too.
+    #[test]
+    fn a_field_has_its_part(rt: HostRuntime) -> Result<(), Fail> {
+        let part = Part {
+            place: 7,
+            contents: b"gate",
+        };
+        assert_eq!(rt; Field::Name(part).part(), part);
+        assert_eq!(rt; Field::Other(1, part).part(), part);
+        assert_eq!(rt; Field::Other(200, part).part(), part);
+        assert_eq!(rt; Field::with_tag(1, part), Field::Call(part));
+        assert_eq!(rt; Field::with_tag(200, part), Field::Other(200, part));
+        Ok(())
     }
 
     #[test]

@@ -58,10 +58,9 @@ enum Ending {
 }
 
 // The word of the item with this number, or a part of it. It is unwound recursively: what it is made of are words of items with lower
-// numbers.
+// numbers. The makings stay an argument of the methods: a word that held them would be handed on in memory, a copy for each letter.
 #[derive(Clone, Copy, Debug)]
-struct Word<'a> {
-    makings: &'a [Making],
+struct Word {
     number: usize,
     part: Part,
 }
@@ -94,78 +93,76 @@ fn ending_by(how: How, part: Part, number: usize) -> Option<Ending>
     }
 }
 
-impl<'a> Word<'a> {
+impl Word {
     // The whole word of an item.
-    fn whole(makings: &'a [Making], number: usize) -> Word<'a>
-        ensures { result ≡ record { makings = makings.entry; number = number; part = Whole } }
+    fn whole(number: usize) -> Word
+        ensures { result ≡ record { number = number; part = Whole } }
     {
         Word {
-            makings,
             number,
             part: Part::Whole,
         }
     }
 
-    // The same part of another item's word.
-    fn of(self, number: usize) -> Word<'a>
-        ensures { result ≡ record self.entry { number = number } }
-    {
-        Word { number, ..self }
-    }
-
-    // The local word of another item.
-    fn local(self, number: usize) -> Word<'a>
-        ensures { result ≡ record self.entry { number = number; part = Local } }
+    // The local word of an item.
+    fn local(number: usize) -> Word
+        ensures { result ≡ record { number = number; part = Local } }
     {
         Word {
             number,
             part: Part::Local,
-            ..self
         }
     }
 
-    // How the word ends, or `None` where it is empty. An item that the row does not have is begun.
-    fn ending(self) -> Option<Ending>
-        ensures { Ends (word_parts self.entry.makings.now) self.entry.part self.entry.number result }
+    // The same part of another item's word.
+    fn of(self, number: usize) -> Word
+        ensures { result ≡ record self { number = number } }
     {
-        let made = self.makings.get(self.number);
+        Word { number, ..self }
+    }
+
+    // How the word ends, or `None` where it is empty. An item that the row does not have is begun.
+    fn ending(self, makings: &[Making]) -> Option<Ending>
+        ensures { Ends (word_parts makings.now) self.part self.number result }
+    {
+        let made = makings.get(self.number);
         ending_by(made.map_or(How::Begun, |m| m.how), self.part, self.number)
     }
 
     // How many letters the word has, or `room + 1` where it has more than `room`. Each letter is taken off the room before the next call,
     // so there are at most `room + 1` calls in all, however long the word is.
-    fn length_within(self, room: usize) -> usize
+    fn length_within(self, makings: &[Making], room: usize) -> usize
         requires { room ≤ 1024 }
-        ensures { result ≡ min (length (letters_of self.entry.makings.now self.entry.part self.entry.number)) (room + 1) }
+        ensures { result ≡ min (length (letters_of makings.now self.part self.number)) (room + 1) }
     {
-        let Some(ending) = self.ending() else {
+        let Some(ending) = self.ending(makings) else {
             return 0;
         };
         match ending {
             Ending::One { .. } if room == 0 => 1,
-            Ending::One { from, .. } => 1 + self.of(from).length_within(room - 1),
+            Ending::One { from, .. } => 1 + self.of(from).length_within(makings, room - 1),
             Ending::Pair { .. } if room < 2 => room + 1,
             Ending::Pair { first, second, .. } => {
-                let inner = self.local(second).length_within(room - 2);
+                let inner = Word::local(second).length_within(makings, room - 2);
                 if inner > room - 2 {
                     return room + 1;
                 }
-                2 + inner + self.of(first).length_within(room - 2 - inner)
+                2 + inner + self.of(first).length_within(makings, room - 2 - inner)
             }
         }
     }
 
     // Writes the codes of the word to the front of a buffer, and answers how many there are.
-    fn put(self, out: &mut [u8]) -> usize
-        requires { length (letters_of self.makings.now self.part self.number) ≤ length out.old }
-        ensures { Stands out.old (letters_of self.entry.makings.now self.entry.part self.entry.number) out.new result }
+    fn put(self, makings: &[Making], out: &mut [u8]) -> usize
+        requires { length (letters_of makings.now self.part self.number) ≤ length out.old }
+        ensures { Stands out.old (letters_of makings.now self.part self.number) out.new result }
     {
-        let Some(ending) = self.ending() else {
+        let Some(ending) = self.ending(makings) else {
             return 0;
         };
         match ending {
             Ending::One { from, letter } => {
-                let last = self.of(from).put(out);
+                let last = self.of(from).put(makings, out);
                 out[last] = u8::from(letter);
                 last + 1
             }
@@ -175,9 +172,9 @@ impl<'a> Word<'a> {
                 opened,
                 name,
             } => {
-                let call = self.of(first).put(out);
+                let call = self.of(first).put(makings, out);
                 out[call] = u8::from(Letter::Call(opened));
-                let inner = self.local(second).put(&mut out[call + 1..]);
+                let inner = Word::local(second).put(makings, &mut out[call + 1..]);
                 let last = call + 1 + inner;
                 out[last] = u8::from(Letter::Return(name));
                 last + 1
@@ -192,7 +189,7 @@ impl<'a> Word<'a> {
 pub fn word_length(makings: &[Making], number: usize) -> usize
     ensures { result ≡ min (length (word_of makings.now number)) 1025 }
 {
-    Word::whole(makings, number).length_within(LONGEST_WORD)
+    Word::whole(number).length_within(makings, LONGEST_WORD)
 }
 
 /// Writes the codes of the whole word of the item with this number to the front of a buffer, and answers how many there are.
@@ -206,5 +203,5 @@ pub fn write_word(makings: &[Making], number: usize, out: &mut [u8]) -> Result<u
     if length > out.len().min(LONGEST_WORD) {
         return Err(TooLong { length });
     }
-    Ok(Word::whole(makings, number).put(out))
+    Ok(Word::whole(number).put(makings, out))
 }

@@ -1,5 +1,5 @@
 -- Automata made of automata.
-use Rattle.std.specs.Prelude.{◌≡◌, Bool, not, List}
+use Rattle.std.specs.Prelude.{◌≡◌, Bool, not, ◌&&◌, List}
 use Rattle.nested.specs.Automata.{Automaton}
 use Rattle.nested.specs.Reading.{accepted}
 use Rattle.nested.specs.declared.letter.Letter.{Letter}
@@ -31,6 +31,9 @@ module _ {S U : Type 0} where
     pending = λ s b. (A.pending s.0 b, B.pending s.1 b);
     accepts = λ s. join (A.accepts s.0) (B.accepts s.1);
   }
+
+  abbrev pub same_pair : (S → S → Bool) → (U → U → Bool) → S × U → S × U → Bool
+  same_pair e f s u = e s.0 u.0 && f s.1 u.1
 
   -- whether a pair accepts a word is told by whether the two automata do
   abbrev pub AcceptsJoined : (Bool → Bool → Bool) → Automaton S → Automaton U → Type 0

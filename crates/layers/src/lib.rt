@@ -2,7 +2,7 @@
 #![tactic(auto)]
 
 ghost use Rattle.std.specs.Prelude.{◌≡◌, Bool, ◌&&◌, ◌||◌};
-ghost use Rattle.layers.specs.Layers.{AcceptsJoined, AcceptsOthers, not_automaton, side_by_side};
+ghost use Rattle.layers.specs.Layers.{AcceptsJoined, AcceptsOthers, not_automaton, same_pair, side_by_side};
 ghost use Rattle.std.proofs.Common.{rules};
 
 use nested::machine::Machine;
@@ -108,6 +108,8 @@ impl<M: Machine> Machine for Not<M> {
 
     ghost meaning = { λ m. not_automaton (M.Machine.meaning m.0) };
 
+    ghost equal = { λ m. M.Machine.equal m.0 };
+
     ghost equal_only = { Prim.search rules };
 
     ghost equal_itself = { Prim.search rules };
@@ -135,12 +137,18 @@ impl<M: Machine> Machine for Not<M> {
     fn accepts(&self, state: M::State) -> bool {
         !self.0.accepts(state)
     }
+
+    fn same(&self, left: M::State, right: M::State) -> bool {
+        self.0.same(left, right)
+    }
 }
 
 impl<A: Machine, B: Machine, J: Join> Machine for Pair<A, B, J> {
     type State = (A::State, B::State);
 
     ghost meaning = { λ m. side_by_side J.Join.joined (A.Machine.meaning m.first) (B.Machine.meaning m.second) };
+
+    ghost equal = { λ m. same_pair (A.Machine.equal m.first) (B.Machine.equal m.second) };
 
     ghost equal_only = { Prim.search rules };
 
@@ -180,5 +188,9 @@ impl<A: Machine, B: Machine, J: Join> Machine for Pair<A, B, J> {
     fn accepts(&self, state: Self::State) -> bool {
         self.join
             .join(self.first.accepts(state.0), self.second.accepts(state.1))
+    }
+
+    fn same(&self, left: Self::State, right: Self::State) -> bool {
+        self.first.same(left.0, right.0) && self.second.same(left.1, right.1)
     }
 }

@@ -1,5 +1,5 @@
 -- The depth machine.
-use Rattle.std.specs.Prelude.{ℕ, ◌+◌, ◌≤◌, min, max, List, take, Decides, nat_le}
+use Rattle.std.specs.Prelude.{ℕ, ◌+◌, ◌≤◌, min, max, Bool, ◌&&◌, List, take, Decides, ◌==◌, nat_le}
 use Rattle.nested.specs.Automata.{Automaton}
 use Rattle.nested.specs.Reading.{accepted, unclosed_calls}
 use Rattle.nested.specs.declared.letter.Letter.{Letter}
@@ -7,6 +7,9 @@ use Rattle.machines.specs.declared.depth.DepthState.{DepthState}
 
 abbrev pub at_depth : ℕ → ℕ → DepthState
 at_depth d m = record { depth = d; most = m }
+
+abbrev pub same_state : DepthState → DepthState → Bool
+same_state s u = s.depth == u.depth && s.most == u.most
 
 -- Depth k. A call makes the depth one more, held at k + 1, and the most the larger of itself and the new depth; a return sets the
 -- depth to what it was before its call; internal letters and pending returns leave the state. It accepts if the most is at most k.

@@ -11,6 +11,12 @@ abbrev pub is_ok : NamesState → Bool
 is_ok Ok = true
 is_ok Broken = false
 
+abbrev pub same_state : NamesState → NamesState → Bool
+same_state Ok Ok = true
+same_state Ok Broken = false
+same_state Broken Ok = false
+same_state Broken Broken = true
+
 -- only ok accepts; a return breaks it where its name differs from that of its call, and nothing else alters it
 abbrev pub names : Automaton NamesState
 names = record {

@@ -1,6 +1,6 @@
 // The machine that bounds how many calls are open at once.
 ghost use Rattle.std.specs.Prelude.{◌≡◌, ◌≤◌, min};
-ghost use Rattle.machines.specs.Depth.{AcceptsWithin, depth_automaton};
+ghost use Rattle.machines.specs.Depth.{AcceptsWithin, depth_automaton, same_state};
 ghost use Rattle.std.proofs.Common.{rules};
 
 use nested::machine::Machine;
@@ -36,6 +36,8 @@ impl Machine for Depth {
 
     ghost meaning = { λ d. depth_automaton d.k };
 
+    ghost equal = { λ _ s u. same_state s u };
+
     ghost equal_only = { Prim.search rules };
 
     ghost equal_itself = { Prim.search rules };
@@ -69,5 +71,9 @@ impl Machine for Depth {
 
     fn accepts(&self, state: DepthState) -> bool {
         state.most <= self.k
+    }
+
+    fn same(&self, left: DepthState, right: DepthState) -> bool {
+        left == right
     }
 }

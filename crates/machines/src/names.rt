@@ -1,5 +1,5 @@
 // The machine that holds each return to the name of its call.
-ghost use Rattle.machines.specs.Names.{AcceptsAgreeing, names};
+ghost use Rattle.machines.specs.Names.{AcceptsAgreeing, names, same_state};
 ghost use Rattle.std.proofs.Common.{rules};
 
 use nested::machine::Machine;
@@ -29,6 +29,8 @@ impl Machine for Names {
     type State = NamesState;
 
     ghost meaning = { λ _. names };
+
+    ghost equal = { λ _ s u. same_state s u };
 
     ghost equal_only = { Prim.search rules };
 
@@ -60,5 +62,9 @@ impl Machine for Names {
 
     fn accepts(&self, state: NamesState) -> bool {
         state == NamesState::Ok
+    }
+
+    fn same(&self, left: NamesState, right: NamesState) -> bool {
+        left == right
     }
 }

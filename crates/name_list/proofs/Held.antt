@@ -11,10 +11,10 @@ pub names_length : (v : Vec (Vec ℕ Global) Global) → length (names_of v) ≡
 names_length v = length-map (vec_items v) vec_items ∙ sym v.ok.0
 
 -- a number counted from i on
-abbrev from : ℕ → Option ℕ → Option ℕ
+abbrev pub from : ℕ → Option ℕ → Option ℕ
 from i o = option_map (λ k. i + k) o
 
-from_zero : (o : Option ℕ) → from 0 o ≡ o
+pub from_zero : (o : Option ℕ) → from 0 o ≡ o
 from_zero None = refl
 from_zero (Some k) = ap Some (omega arith)
 

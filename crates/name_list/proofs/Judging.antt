@@ -1,14 +1,13 @@
 -- How a field behind some names is judged.
-use Rattle.std.proofs.Common.{◌≡◌, ℕ, ◌<◌, ◌≤◌, true, false, not, List, map, length, is_some, Some, None, Option, sym, refl, ap, arith, ◌∙◌, subst}
+use Rattle.std.proofs.Common.{◌≡◌, ℕ, ◌<◌, ◌≤◌, true, false, not, List, map, length, is_some, Some, None, Option, sym, ap, ◌∙◌, subst}
 use Rattle.std.proofs.lemmas.List.{length-map}
-use Rattle.std.proofs.lemmas.Bool.{both_ways, cond-false, cond-true, le-leb, lt-leb, ne_eqb}
+use Rattle.std.proofs.lemmas.Bool.{cond-false, cond-true, le-leb, lt-leb, ne_eqb}
 use Rattle.fields.specs.Faults.{told_at}
 use Rattle.fields.specs.declared.fault.At.{At}
 use Rattle.fields.specs.declared.fault.Told.{Told}
 use Rattle.fields.proofs.Telling.{number_told}
 use Rattle.fields.specs.Fields.{Piece}
-use Rattle.fields.specs.Parts.{part_of, piece_of, tag_of}
-use Rattle.fields.specs.Tags.{known_tag}
+use Rattle.fields.specs.Parts.{field_of, part_of, piece_of, tag_of}
 use Rattle.fields.specs.declared.fault.File.TheVariants.{Names}
 use Rattle.fields.specs.declared.field.Field.{Field}
 use Rattle.fields.specs.declared.field.Field.TheVariants as case
@@ -63,9 +62,5 @@ module _ (ns : List Name) where
   name_fault_told field q at k part is p named fault = fault_told field q at k part is (ap (λ x. names_format (map name_field ns) (piece_of x)) named ∙ fault)
 
 -- a field whose case is not that of a name has another tag
-pub other_tag : (field : Field) → ((p : Part) → field ≡ case.Name p → ⊥) → tag_of field ≡ 16 → ⊥
-other_tag (case.Call p) other tag = omega arith
-other_tag (case.Return p) other tag = omega arith
-other_tag (case.Internal p) other tag = omega arith
-other_tag (case.Name p) other tag = other p refl
-other_tag (case.Other t p) other tag = both_ways _ t.other (ap known_tag tag)
+pub other_tag : (field : Field) → field ≡ field_of (tag_of field) (part_of field) → ((p : Part) → field ≡ case.Name p → ⊥) → tag_of field ≡ 16 → ⊥
+other_tag field is other tag = other (part_of field) (is ∙ ap (λ t. field_of t (part_of field)) tag)

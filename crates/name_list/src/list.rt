@@ -2,7 +2,7 @@
 ghost use Rattle.std.specs.Prelude.{◌≡◌, ◌<◌, ◌≤◌, true, ◌⊎◌, [], ◌∷◌, ◌++◌, map, length, vec_items, Ok, Err, MatchOption, MatchResult, slice_index_or, position};
 ghost use Rattle.fields.specs.declared.fault.Fault.TheVariants.{Memory};
 ghost use Rattle.fields.specs.Outcomes.{OneOutcome};
-ghost use Rattle.fields.specs.Parts.{part_of, piece_of};
+ghost use Rattle.fields.specs.Parts.{field_of, part_of, piece_of, tag_of};
 ghost use Rattle.name_list.specs.Names.{same_name, Judged, Lists, ListsNone, Loads, listable, names_format, names_of, number_of};
 
 use crate::name::{has_name_bytes, has_name_length, same_name};
@@ -44,6 +44,7 @@ fn find_in(names: &[Vec<u8>], name: &[u8]) -> Option<usize>
 
 // The name in a field that comes behind these names, or what is wrong with the field.
 fn judge<'a>(names: &[Vec<u8>], field: Field<'a>) -> Result<&'a [u8], Fault>
+    requires { field ≡ field_of (tag_of field) (part_of field) }
     ensures { MatchResult result (λ n. Judged (map vec_items names.now) (piece_of field.entry) (part_of field.entry).place (Ok n.now)) (λ e. Judged (map vec_items names.now) (piece_of field.entry) (part_of field.entry).place (Err e)) }
 {
     let at = File::Names.at(field.part().place);
@@ -104,7 +105,8 @@ impl NameList {
         ensures loads { Loads bytes.now self.old.names self.new.names result }
         ensures only { OneOutcome names_format bytes.now }
     {
-        self.names = read_names(bytes, heap)?;
+        let names = read_names(bytes, heap)?;
+        self.names = names;
         Ok(())
     }
 

@@ -29,7 +29,7 @@ module _ {S : Type 0} (A : Automaton S) where
   marks_more c (x ∷ w) l row = marks_more (read_letter A c x) w l (mark_written c x row)
 
   -- as many calls are open after a word as marks are left
-  open_after : (w : List Letter) (s : S) (ms : List (Mark S)) → length (read_from A (record { state = s; marks = ms }) w).marks ≡ opens (length ms) w
+  pub open_after : (w : List Letter) (s : S) (ms : List (Mark S)) → length (read_from A (record { state = s; marks = ms }) w).marks ≡ opens (length ms) w
   unfolding read_from
   open_after [] s ms = unfold pending_returns unclosed_calls in omega arith
   open_after (Call a ∷ w) s ms = open_after w _ (record { state = s; name = a } ∷ ms) ∙ sym (opens_call (length ms) a w)
@@ -58,7 +58,7 @@ module _ {S : Type 0} (A : Automaton S) where
 
     module _ (i : ℕ) (p : Position S) (row : List (Mark S)) (f : Followed codes row₀ i p row) where
       -- the places that are taken are the calls that are open
-      taken_unclosed : p.taken ≡ unclosed_calls (letters (take i codes))
+      pub taken_unclosed : p.taken ≡ unclosed_calls (letters (take i codes))
       taken_unclosed = let n = open_after (letters (take i codes)) A.start [] in omega arith
 
       refusal_here : refusal_at (length row₀) codes i ≡ letter_refusal (places p.row) p.taken (get_or codes i 0)

@@ -1,6 +1,7 @@
 // A letter of a nested word, and its code.
-ghost use Rattle.std.specs.Prelude.{◌++◌, Some, codes, decimal};
+ghost use Rattle.std.specs.Prelude.{Some};
 ghost use Rattle.nested.specs.Letters.{IsCodeOf, ReadsCode};
+ghost use Rattle.nested.specs.Texts.{not_a_letter_text};
 
 use std::error::Error;
 use std::fmt;
@@ -50,7 +51,7 @@ impl From<Letter> for u8 {
 }
 
 impl fmt::Display for NotALetter {
-    ghost output = { λ e. Some (codes "no letter has the code " ++ decimal e.0) };
+    ghost output = { λ e. Some (not_a_letter_text e) };
 
     fn fmt<W: fmt::Write>(&self, f: &mut fmt::Formatter<W>) -> fmt::Result {
         write!(f, "no letter has the code {}", self.0)

@@ -1,15 +1,18 @@
 // What every machine on nested words gives.
-ghost use Rattle.std.specs.Prelude.{◌≡◌, ◌%◌, true};
+ghost use Rattle.std.specs.Prelude.{◌≡◌, ◌%◌, Bool, true};
 ghost use Rattle.nested.specs.Automata.{Automaton};
 
 /// A machine that reads nested words letter by letter.
 ///
 /// A name above 15 counts as its remainder by 16. No machine refuses a letter, and asking alters no machine.
 pub trait Machine {
-    type State: Copy + PartialEq;
+    type State: Copy;
 
     // What the machine means: each answer below is this automaton's, for every state and every name.
     ghost meaning: { Self → Automaton Self.State };
+
+    // The test of equal states.
+    ghost equal: { Self → Self.State → Self.State → Bool };
 
     /// The state before the first letter.
     fn start(&self) -> Self::State
@@ -37,13 +40,9 @@ pub trait Machine {
 
     /// Whether two states are equal.
     fn same(&self, left: Self::State, right: Self::State) -> bool
-        ensures { result ≡ Self.State.eq left right }
-    {
-        left == right
-    }
+        ensures { result ≡ equal self.now left right };
 
-    // States that are equal by `==` are one state, and each state is equal to itself.
-    ghost equal_only: { (s u : Self.State) → Self.State.eq s u ≡ true → s ≡ u };
+    ghost equal_only: { (m : Self) (s u : Self.State) → equal m s u ≡ true → s ≡ u };
 
-    ghost equal_itself: { (s : Self.State) → Self.State.eq s s ≡ true };
+    ghost equal_itself: { (m : Self) (s : Self.State) → equal m s s ≡ true };
 }

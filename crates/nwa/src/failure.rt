@@ -32,6 +32,9 @@ pub enum Failure<'a> {
     /// A letter was refused.
     #[error(transparent)]
     Refused(#[from] Stop),
+    /// A record was not checked: it has a fault, or a letter of it was refused.
+    #[error(transparent)]
+    Unchecked(#[from] Unchecked),
     /// Printing failed, or there was no memory. No command is answered after that.
     #[error(transparent)]
     Io(#[from] io::Error),
@@ -42,15 +45,6 @@ impl From<ParseError> for Failure<'_> {
         match error {
             ParseError::Expected(what) => Failure::Expected(what),
             ParseError::Memory(error) => Failure::Io(error.into()),
-        }
-    }
-}
-
-impl From<Unchecked> for Failure<'_> {
-    fn from(unchecked: Unchecked) -> Self {
-        match unchecked {
-            Unchecked::Faulty(fault) => Failure::Faulty(fault),
-            Unchecked::Refused(stop) => Failure::Refused(stop),
         }
     }
 }

@@ -9,7 +9,6 @@ use Rattle.fields.specs.declared.fault.Fault.TheVariants.{Tag}
 use Rattle.fields.proofs.Telling.{number_told}
 use Rattle.fields.specs.Fields.{Piece}
 use Rattle.fields.specs.Parts.{part_of, piece_of, tag_of}
-use Rattle.fields.specs.Tags.{known_tag}
 use Rattle.fields.specs.declared.field.Field.{Field}
 use Rattle.fields.specs.declared.field.Part.{Part}
 use Rattle.fields.specs.declared.fault.File.TheVariants.{Record}
@@ -67,7 +66,7 @@ module _ (names : List Name) (contents : List ℕ) where
   fault_told place k at is fault = number_told Record place k _ _ fault (ap (λ a. Some (told_at k a)) is)
 
 module _ (names : List Name) (f : Piece) where
-  tag_fault : letter_tag f.tag ≡ false → spelling_fault names f ≡ Some 11
+  pub tag_fault : letter_tag f.tag ≡ false → spelling_fault names f ≡ Some 11
   unfolding spelling_fault
   tag_fault e = cond-true _ _ _ (ap not e)
 
@@ -99,9 +98,6 @@ module _ (names : List Name) (f : Piece) where
 -- the number of a name is added to a multiple of 16 that is at most 32
 pub low_tag : (t : ℕ) → letter_tag t ≡ true → t ≤ 3
 low_tag t e = grind (arith, nat_tests)
-
-pub other_letter : (t : ℕ) → known_tag t ≡ false → letter_tag t ≡ false
-other_letter t e = grind (arith, nat_tests)
 
 -- What a field spells, by its tag and its part.
 module _ (names : List Name) (field : Field) (p : Part) (is : p ≡ part_of field) where

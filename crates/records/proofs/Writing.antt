@@ -59,11 +59,15 @@ ok_from (Some k) d l is = cc
 pub letter_read : (code : ℕ) (r : Result Letter NotALetter) (l : Letter) → r ≡ ok_or (letter_at code) (record { 0 = code }) → r ≡ Ok l → letter_at code ≡ Some l
 letter_read code r l value is = ok_from (letter_at code) _ l (sym value ∙ is)
 
+-- a code up to 47 is that of a letter
+pub letter_here : (code : ℕ) → code ≤ 47 → letter_at code ≡ Some (letter_of code)
+letter_here code low = ap (λ b. cond b (Some (letter_of code)) None) (lt-ltb code 48 (omega arith))
+
 no_letter : (code : ℕ) → letter_at code ≡ None → 47 < code
 no_letter code none = let high = ltb-false code 48 (none_if _ _ none) in omega arith
 
 -- what a letter's code tells of its field
-letter_parts : (code : ℕ) (l : Letter) → letter_at code ≡ Some l → (code ≤ 47) × (tag_in l ≡ 1 + code / 16) × (name_of l ≡ code % 16)
+pub letter_parts : (code : ℕ) (l : Letter) → letter_at code ≡ Some l → (code ≤ 47) × (tag_in l ≡ 1 + code / 16) × (name_of l ≡ code % 16)
 letter_parts code l is =
     let (low, same) = some_if _ _ l is in
     let letter = ltb-true code 48 low in

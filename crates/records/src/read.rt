@@ -1,7 +1,7 @@
 // Reading a record.
 ghost use Rattle.std.specs.Prelude.{◌≡◌, ◌-◌, ◌*◌, ◌≤◌, true, false, length, take, IfOk, MatchOption};
 ghost use Rattle.fields.specs.Outcomes.{OneOutcome};
-ghost use Rattle.fields.specs.Parts.{part_of, piece_of, tag_of};
+ghost use Rattle.fields.specs.Parts.{field_of, part_of, piece_of, tag_of};
 ghost use Rattle.nested.specs.Letters.{code_of};
 ghost use Rattle.records.specs.Reading.{Named, Spells, letter_tag};
 ghost use Rattle.records.specs.Records.{Reads, RecordRead, WritesBack, record_format, spelled};
@@ -36,6 +36,7 @@ fn name_number(names: &NameList, part: Part) -> Result<u8, Fault>
 
 // The letter of the kind that a field spells, by its tag, with name number 0.
 fn kind(field: Field) -> Option<Letter>
+    requires { field ≡ field_of (tag_of field) (part_of field) }
     ensures { MatchOption result (letter_tag (tag_of field.entry) ≡ false) (λ l. (letter_tag (tag_of field.entry) ≡ true) × (code_of l ≡ (tag_of field.entry - 1) * 16)) }
 {
     match field {
@@ -50,6 +51,7 @@ fn kind(field: Field) -> Option<Letter>
 // The code of the letter that a field spells, or what is wrong with the field. The name number is added to the code of the kind's first
 // letter: with a letter made in an arm for each kind, reading a record took a third longer.
 fn letter_code(names: &NameList, field: Field) -> Result<u8, Fault>
+    requires { field ≡ field_of (tag_of field) (part_of field) }
     ensures { Spells names.now.names (piece_of field.entry) (part_of field.entry).place result }
 {
     let part = field.part();

@@ -43,8 +43,8 @@ impl<S> Search<S> {
         items: &mut [Item<S>],
         makings: &mut [Making],
     )
-        ensures board { board self.new.at items.new makings.new ≡ opened (M.meaning question.now) S.eq items.old makings.old }
-        ensures carries { OpensOn (M.meaning question.now) S.eq self.old.at (board self.new.at items.new makings.new) }
+        ensures board { board self.new.at items.new makings.new ≡ opened (M.meaning question.now) (M.equal question.now) items.old makings.old }
+        ensures carries { OpensOn (M.meaning question.now) (M.equal question.now) self.old.at (board self.new.at items.new makings.new) }
     {
         let at = Progress {
             verdict: Verdict::Running,
@@ -82,8 +82,8 @@ impl<S> Search<S> {
         makings: &mut [Making],
         n: usize,
     ) -> Result<usize, Refusal>
-        ensures board { Advances (board self.old.at items.old makings.old) (M.meaning question.now) S.eq n (board self.new.at items.new makings.new) result }
-        ensures carries { AdvancesOn (M.meaning question.now) S.eq (board self.old.at items.old makings.old) n (board self.new.at items.new makings.new) result }
+        ensures board { Advances (board self.old.at items.old makings.old) (M.meaning question.now) (M.equal question.now) n (board self.new.at items.new makings.new) result }
+        ensures carries { AdvancesOn (M.meaning question.now) (M.equal question.now) (board self.old.at items.old makings.old) n (board self.new.at items.new makings.new) result }
     {
         // `word` asks this too: each has its own error for it, and a shared check would only hand that over
         if !self.at.fits_rows(items.len(), makings.len()) {

@@ -1,6 +1,6 @@
 // Entering items.
 ghost use Rattle.std.specs.Prelude.{◌≡◌, [], ◌∷◌, take};
-ghost use Rattle.search.specs.Model.{each, enter, listed};
+ghost use Rattle.search.specs.Model.{each, enter, listed, same_item};
 ghost use Rattle.search.specs.Worklists.{Computes, Enters, Leads, board_of};
 
 use crate::verdict::Verdict;
@@ -8,12 +8,24 @@ use crate::worklist::{Candidate, Worklist};
 use items::item::Item;
 use nested::machine::Machine;
 
+// Whether two items are one.
+fn same_item<M: Machine>(question: &M, left: &Item<M::State>, right: &Item<M::State>) -> bool
+    ensures { result ≡ same_item (M.meaning question.now) (M.equal question.now) left.now right.now }
+{
+    left.level == right.level
+        && question.same(left.entry, right.entry)
+        && question.same(left.present, right.present)
+}
+
 impl<M: Machine> Worklist<'_, '_, '_, M> {
     // Whether an item is one of those entered.
     fn is_listed(&self, new: &Item<M::State>) -> bool
-        ensures { result ≡ listed (M.meaning self.now.question.now) M.State.eq (take self.now.at.entered self.now.items.now) new.now }
+        ensures { result ≡ listed (M.meaning self.now.question.now) (M.equal self.now.question.now) (take self.now.at.entered self.now.items.now) new.now }
     {
-        self.items[..self.at.entered].contains(new)
+        let question = self.question;
+        self.items[..self.at.entered]
+            .iter()
+            .any(|item| same_item(question, item, new))
     }
 
     // Enters a candidate, unless the verdict is final or its item is there already.

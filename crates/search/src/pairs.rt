@@ -22,8 +22,7 @@ impl<M: Machine> Worklist<'_, '_, '_, M> {
         let question = self.question;
         let before = self.items[first];
         let inside = self.items[second];
-        let called = question.call(before.present, opened);
-        if called != inside.entry {
+        if !question.same(question.call(before.present, opened), inside.entry) {
             return;
         }
         self.enter_each(move |name| Candidate {

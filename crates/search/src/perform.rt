@@ -35,7 +35,7 @@ impl<S> Kept<S> {
         n: usize,
         other: Option<Rows<S>>,
     ) -> Result<usize, Refusal>
-        ensures { AdvancesWith (kept_board self.old) (M.meaning question.now) S.eq n other (kept_board self.new) result }
+        ensures { AdvancesWith (kept_board self.old) (M.meaning question.now) (M.equal question.now) n other (kept_board self.new) result }
     {
         match other {
             Some(mut other) if !self.fits(&other) => {
@@ -66,7 +66,7 @@ impl<S> Kept<S> {
 
     // Performs one call, and answers it.
     fn answer<M: Machine<State = S>>(&mut self, question: &M, call: Call<S>) -> Answer
-        ensures { Answered (kept_board self.old) (M.meaning question.now) S.eq call result (kept_board self.new) }
+        ensures { Answered (kept_board self.old) (M.meaning question.now) (M.equal question.now) call result (kept_board self.new) }
     {
         match call {
             Call::Open(new) => {

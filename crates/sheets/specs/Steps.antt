@@ -80,3 +80,6 @@ sheet_automaton d = record {
   pending = λ s b. onward s (by_pending d.moves b);
   accepts = λ s. some_state (λ q. state_in s.states q && state_in d.accepting q);
 }
+
+abbrev pub same_state : SheetState → SheetState → Bool
+same_state s u = s.pairs == u.pairs && s.states == u.states

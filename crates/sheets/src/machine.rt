@@ -4,7 +4,7 @@ ghost use Rattle.sheets.specs.Masks.{MasksAreSets, pairs_where};
 ghost use Rattle.sheets.specs.Moves.{Description, InRange};
 ghost use Rattle.sheets.specs.Runs.{AcceptsByRuns};
 ghost use Rattle.sheets.specs.Sheets.{described};
-ghost use Rattle.sheets.specs.Steps.{identity, sheet_automaton};
+ghost use Rattle.sheets.specs.Steps.{identity, same_state, sheet_automaton};
 ghost use Rattle.std.proofs.Common.{rules};
 
 use crate::sheet::Sheet;
@@ -44,6 +44,8 @@ impl Machine for Sheet {
 
     ghost meaning = { λ s. sheet_automaton (described s) };
 
+    ghost equal = { λ _ s u. same_state s u };
+
     ghost equal_only = { Prim.search rules };
 
     ghost equal_itself = { Prim.search rules };
@@ -76,5 +78,9 @@ impl Machine for Sheet {
 
     fn accepts(&self, state: SheetState) -> bool {
         state.states & self.accepting != 0
+    }
+
+    fn same(&self, left: SheetState, right: SheetState) -> bool {
+        left == right
     }
 }

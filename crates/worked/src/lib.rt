@@ -6,6 +6,7 @@ mod tests {
     use machines::depth::Depth;
     use machines::names::Names;
     use nested::follower::Follower;
+    use nested::machine::Machine;
     use nested::refusal::Refusal;
     use nested::row::mark_row;
     use nested::standing::{Standing, Stop};
@@ -18,6 +19,74 @@ mod tests {
 
     fn stops(letter: usize, refusal: Refusal) -> Result<Standing, Stop> {
         Err(Stop { letter, refusal })
+    }
+
+    // The name of the latest call. It has no `==`: a machine's states need none.
+    #[derive(Clone, Copy)]
+    struct Latest {
+        name: u8,
+    }
+
+    // Accepts where the latest call, if there is one, has name 0.
+    struct LatestIsZero;
+
+    impl Machine for LatestIsZero {
+        ghost use Rattle.std.specs.Prelude.{◌==◌};
+        ghost use Rattle.std.proofs.Common.{rules, arith};
+
+        type State = Latest;
+
+        ghost meaning = { λ _. record { start = record { name = 0 }; internal = λ s a. s; call = λ s a. record { name = a }; ret = λ s before a b. s; pending = λ s b. s; accepts = λ s. s.name == 0 } };
+
+        ghost equal = { λ _ s u. s.name == u.name };
+
+        ghost equal_only = { first_of (Prim.search rules, Prim.grind (arith, Self.row.coded.inj)) };
+
+        ghost equal_itself = { first_of (Prim.search rules, Prim.grind (arith, Self.row.coded.inj)) };
+
+        fn start(&self) -> Latest {
+            Latest { name: 0 }
+        }
+
+        fn internal(&self, state: Latest, _name: u8) -> Latest {
+            state
+        }
+
+        fn call(&self, _state: Latest, name: u8) -> Latest {
+            Latest { name: name % 16 }
+        }
+
+        fn ret(&self, state: Latest, _before: Latest, _opened: u8, _name: u8) -> Latest {
+            state
+        }
+
+        fn pending(&self, state: Latest, _name: u8) -> Latest {
+            state
+        }
+
+        fn accepts(&self, state: Latest) -> bool {
+            state.name == 0
+        }
+
+        fn same(&self, left: Latest, right: Latest) -> bool {
+            left.name == right.name
+        }
+    }
+
+    #[test]
+    fn states_need_no_equality_of_their_own(rt: HostRuntime) -> Result<(), Fail> {
+        let mut marks = mark_row(&LatestIsZero, 4, rt.alloc())?;
+        assert_eq!(rt;
+            follow_word(&LatestIsZero, &[1, 0], &mut marks),
+            stands(true, 2)
+        );
+        assert_eq!(rt;
+            follow_word(&LatestIsZero, &[0, 1, 17], &mut marks),
+            stands(false, 1)
+        );
+        assert!(rt; LatestIsZero.same(Latest { name: 3 }, Latest { name: 3 }));
+        assert!(rt; !LatestIsZero.same(Latest { name: 3 }, Latest { name: 4 }));
+        Ok(())
     }
 
     #[test]

@@ -9,7 +9,7 @@ use Rattle.name_list.proofs.list.judge.Goals as goal
 pub returns-in_default : goal.returns-in_default
 returns-in_default c =
     let ns = map vec_items c.args.names.now in
-    fault_told ns c.args.field _ _ 11 c.part.ensures c.at-at.ensures (tag_fault ns (piece_of c.args.field) (other_tag c.args.field c.in_default.not-Name))
+    fault_told ns c.args.field _ _ 11 c.part.ensures c.at-at.ensures (tag_fault ns (piece_of c.args.field) (other_tag c.args.field c.requires c.in_default.not-Name))
 
 pub returns-then-not-has_name_length : goal.returns-then-not-has_name_length
 returns-then-not-has_name_length c =

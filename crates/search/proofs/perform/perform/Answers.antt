@@ -10,7 +10,7 @@ use Rattle.search.proofs.perform.perform.Goals as goal
 pub loop-call-preserved : goal.loop-call-preserved
 loop-call-preserved g c =
     let A = g.M.Machine.meaning c.args.question.now in
-    let eq : g.row.M-State.Denot → g.row.M-State.Denot → _ = g.M.State.PartialEq.eq in
+    let eq = g.M.Machine.equal c.args.question.now in
     let all = into_iter_items c.into_iter-call-iterator.result in
     let loop = c.loop-call in
     let (_, _, room, leads) = loop.invariant in
@@ -26,8 +26,8 @@ pub returns : goal.returns
 returns g c =
     let question = c.args.question.now in
     let A = g.M.Machine.meaning question in
-    let eq : g.row.M-State.Denot → g.row.M-State.Denot → _ = g.M.State.PartialEq.eq in
-    let law : Lawful eq = record { only = g.met.M.Machine.equal_only; itself = g.met.M.Machine.equal_itself } in
+    let eq = g.M.Machine.equal c.args.question.now in
+    let law : Lawful eq = record { only = g.met.M.Machine.equal_only question; itself = g.met.M.Machine.equal_itself question } in
     let all = into_iter_items c.into_iter-call-iterator.result in
     let loop = c.loop-call in
     let left = into_iter_items loop.call-iterator in

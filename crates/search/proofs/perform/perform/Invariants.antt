@@ -10,4 +10,4 @@ invariant-loop-call g l =
     (goal.iterator-loop-call g).can_next l.call-iterator ×
     (goal.iterator-loop-call g).is_finite l.call-iterator ×
     (vec_len l.answers + into_iter_len l.call-iterator ≤ vec_capacity l.answers) ×
-    Leads (g.M.Machine.meaning l.question) g.M.State.PartialEq.eq (into_iter_items l.initial.call-iterator) (vec_items l.answers) (kept_board l.kept) (into_iter_items l.call-iterator)
+    Leads (g.M.Machine.meaning l.question) (g.M.Machine.equal l.question) (into_iter_items l.initial.call-iterator) (vec_items l.answers) (kept_board l.kept) (into_iter_items l.call-iterator)

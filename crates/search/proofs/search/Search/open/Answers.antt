@@ -7,11 +7,11 @@ use Rattle.search.proofs.search.Search.open.Goals as goal
 pub invariant_of-self : goal.invariant_of-self
 invariant_of-self g c =
     let A = g.M.Machine.meaning c.args.question.now in
-    let eq : g.row.S.Denot → g.row.S.Denot → _ = g.S.PartialEq.eq in
+    let eq = g.M.Machine.equal c.args.question.now in
     let b = board_of c.enter.new.self in record {
       few = begun_few A eq c.args.items.now c.args.makings.now b c.start-start.result c.start-start.ensures c.enter.ensures.board;
       unhandled = begun_left A eq c.args.items.now c.args.makings.now b c.start-start.result c.start-start.ensures c.enter.ensures.board;
     }
 
 pub returns-clause-carries : goal.returns-clause-carries
-returns-clause-carries g c = opens_on (g.M.Machine.meaning c.args.question.now) g.S.PartialEq.eq c.args.self.now.at c.args.items.now c.args.makings.now _ (search rules)
+returns-clause-carries g c = opens_on (g.M.Machine.meaning c.args.question.now) (g.M.Machine.equal c.args.question.now) c.args.self.now.at c.args.items.now c.args.makings.now _ (search rules)

@@ -8,7 +8,7 @@ use Rattle.search.proofs.worklist.Worklist.by_match.Goals as goal
 pub returns-then-eq : goal.returns-then-eq
 returns-then-eq g c =
     let A = g.M.Machine.meaning c.args.self.now.question.now in
-    let eq : g.row.M-State.Denot → g.row.M-State.Denot → _ = g.M.State.PartialEq.eq in
+    let eq = g.M.Machine.equal c.args.self.now.question.now in
     let items = c.args.self.now.items.now in
     let inside = c.index-self-second.result in
     let base : is_base inside.level ≡ true = search rules in
@@ -21,7 +21,7 @@ loop-opened-init g c = gone_not c.args.self.now (λ A eq items. by_return A eq i
 pub returns-then-is_final : goal.returns-then-is_final
 returns-then-is_final g c =
     let A = g.M.Machine.meaning c.args.self.now.question.now in
-    let eq : g.row.M-State.Denot → g.row.M-State.Denot → _ = g.M.State.PartialEq.eq in
+    let eq = g.M.Machine.equal c.args.self.now.question.now in
     let items = c.args.self.now.items.now in
     let inside = c.index-self-second.result in
     let loop = c.loop-opened in
@@ -33,7 +33,7 @@ returns-then-is_final g c =
 pub by_return-requires : goal.by_return-requires
 by_return-requires g c =
     let loop = c.loop-opened in
-    let eq : g.row.M-State.Denot → g.row.M-State.Denot → _ = g.M.State.PartialEq.eq in
+    let eq = g.M.Machine.equal c.args.self.now.question.now in
     let later = enters_later c.args.self.now loop.self _ loop.invariant in
     let grown = later.grown in
     record { first = omega arith; second = omega arith; name = c.loop-opened-test.true }
@@ -41,7 +41,7 @@ by_return-requires g c =
 pub loop-opened-preserved : goal.loop-opened-preserved
 loop-opened-preserved g c =
     let A = g.M.Machine.meaning c.args.self.now.question.now in
-    let eq : g.row.M-State.Denot → g.row.M-State.Denot → _ = g.M.State.PartialEq.eq in
+    let eq = g.M.Machine.equal c.args.self.now.question.now in
     let loop = c.loop-opened in
     let later = enters_later c.args.self.now loop.self _ loop.invariant in
     gone_by c.args.self.now (λ A eq items. by_return A eq items c.args.first c.args.second) loop.self loop.opened loop.invariant c.by_return.new.self (λ A eq items. by_return A eq items c.args.first c.args.second loop.opened) c.by_return.ensures

@@ -7,7 +7,7 @@ use Rattle.search.proofs.worklist.Worklist.by_pending.Goals as goal
 pub returns-then-ne : goal.returns-then-ne
 returns-then-ne g c =
     let A = g.M.Machine.meaning c.args.self.now.question.now in
-    let eq : g.row.M-State.Denot → g.row.M-State.Denot → _ = g.M.State.PartialEq.eq in
+    let eq = g.M.Machine.equal c.args.self.now.question.now in
     let items = c.args.self.now.items.now in
     let from = c.index-self-number.result in
     let inner : is_base from.level ≡ false = search rules in
@@ -17,7 +17,7 @@ returns-then-ne g c =
 pub returns : goal.returns
 returns g c =
     let A = g.M.Machine.meaning c.args.self.now.question.now in
-    let eq : g.row.M-State.Denot → g.row.M-State.Denot → _ = g.M.State.PartialEq.eq in
+    let eq = g.M.Machine.equal c.args.self.now.question.now in
     let items = c.args.self.now.items.now in
     let from = c.index-self-number.result in
     let made = pending_of A c.args.number from in

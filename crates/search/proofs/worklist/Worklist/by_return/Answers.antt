@@ -4,10 +4,10 @@ use Rattle.search.proofs.Candidates.{is_at, of_names, return_inside, return_of, 
 use Rattle.search.proofs.Worklists.{enters_as, enters_none}
 use Rattle.search.proofs.worklist.Worklist.by_return.Goals as goal
 
-pub returns-then-ne : goal.returns-then-ne
-returns-then-ne g c =
+pub returns-then-not-same : goal.returns-then-not-same
+returns-then-not-same g c =
     let A = g.M.Machine.meaning c.args.self.now.question.now in
-    let eq : g.row.M-State.Denot → g.row.M-State.Denot → _ = g.M.State.PartialEq.eq in
+    let eq = g.M.Machine.equal c.args.self.now.question.now in
     let items = c.args.self.now.items.now in
     let before = c.index-self-first.result in
     let inside = c.index-self-second.result in
@@ -19,7 +19,7 @@ returns-then-ne g c =
 pub returns : goal.returns
 returns g c =
     let A = g.M.Machine.meaning c.args.self.now.question.now in
-    let eq : g.row.M-State.Denot → g.row.M-State.Denot → _ = g.M.State.PartialEq.eq in
+    let eq = g.M.Machine.equal c.args.self.now.question.now in
     let items = c.args.self.now.items.now in
     let before = c.index-self-first.result in
     let inside = c.index-self-second.result in

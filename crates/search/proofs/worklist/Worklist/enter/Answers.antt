@@ -11,7 +11,7 @@ use Rattle.search.proofs.worklist.Worklist.enter.Goals.{then-is_final-via-then-i
 pub returns-then-is_final : goal.returns-then-is_final
 returns-then-is_final g c =
     let A = g.M.Machine.meaning c.args.self.now.question.now in
-    let eq : g.row.M-State.Denot → g.row.M-State.Denot → _ = g.M.State.PartialEq.eq in
+    let eq = g.M.Machine.equal c.args.self.now.question.now in
     let b = board_of c.args.self.now in
     let same : enter A eq b c.args.candidate ≡ b = elim c.then-is_final.branch [
       | then-is_final-via-then-is_final w ↦ enter_final A eq b c.args.candidate (sym c.is_final.ensures ∙ w.if-is_final.true)
@@ -21,14 +21,14 @@ returns-then-is_final g c =
 
 pub returns-then-entered-places : goal.returns-then-entered-places
 returns-then-entered-places g c =
-    let board = enter_full (g.M.Machine.meaning c.args.self.now.question.now) g.M.State.PartialEq.eq (board_of c.args.self.now) c.args.candidate (sym c.is_final.ensures ∙ c.if-is_final.false) (sym c.is_listed.ensures ∙ c.if-is_listed.false) (omega arith) in
+    let board = enter_full (g.M.Machine.meaning c.args.self.now.question.now) (g.M.Machine.equal c.args.self.now.question.now) (board_of c.args.self.now) c.args.candidate (sym c.is_final.ensures ∙ c.if-is_final.false) (sym c.is_listed.ensures ∙ c.if-is_listed.false) (omega arith) in
     record { loan = record { question = refl; items = refl; makings = refl }; board = sym board }
 
 pub returns-then-accepts : goal.returns-then-accepts
 returns-then-accepts g c =
     let A = g.M.Machine.meaning c.args.self.now.question.now in
     let says : Found ≡ cond (A.accepts c.args.candidate.new.present) Found Running = search rules in
-    let board = enter_put A g.M.State.PartialEq.eq (board_of c.args.self.now) c.args.candidate (sym c.is_final.ensures ∙ c.if-is_final.false) (sym c.is_listed.ensures ∙ c.if-is_listed.false) (omega arith) Found says in
+    let board = enter_put A (g.M.Machine.equal c.args.self.now.question.now) (board_of c.args.self.now) c.args.candidate (sym c.is_final.ensures ∙ c.if-is_final.false) (sym c.is_listed.ensures ∙ c.if-is_listed.false) (omega arith) Found says in
     record { loan = record { question = refl; items = refl; makings = refl }; board = board }
 
 pub returns-else-accepts : goal.returns-else-accepts
@@ -37,5 +37,5 @@ returns-else-accepts g c =
     let verdict = c.args.self.now.at.verdict in
     let going = sym c.is_final.ensures ∙ c.if-is_final.false in
     let stays : Running ≡ cond (A.accepts c.args.candidate.new.present) Found Running = search rules in
-    let board = enter_put A g.M.State.PartialEq.eq (board_of c.args.self.now) c.args.candidate going (sym c.is_listed.ensures ∙ c.if-is_listed.false) (omega arith) verdict (running_from verdict going ∙ stays) in
+    let board = enter_put A (g.M.Machine.equal c.args.self.now.question.now) (board_of c.args.self.now) c.args.candidate going (sym c.is_listed.ensures ∙ c.if-is_listed.false) (omega arith) verdict (running_from verdict going ∙ stays) in
     record { loan = record { question = refl; items = refl; makings = refl }; board = board }

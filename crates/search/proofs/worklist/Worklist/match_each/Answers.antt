@@ -20,7 +20,7 @@ returns-then-is_final g c pairs computes =
 pub loop-k-preserved : goal.loop-k-preserved
 loop-k-preserved g c =
     let A = g.M.Machine.meaning c.args.self.now.question.now in
-    let eq : g.row.M-State.Denot → g.row.M-State.Denot → _ = g.M.State.PartialEq.eq in
+    let eq = g.M.Machine.equal c.args.self.now.question.now in
     let start = c.args.self.now in
     let loop = c.loop-k in
     let next = c.by_match.new.self in

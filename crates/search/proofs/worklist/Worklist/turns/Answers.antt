@@ -8,12 +8,12 @@ use Rattle.search.proofs.worklist.Worklist.turns.Goals as goal
 pub returns-then-is_final-clause-done : goal.returns-then-is_final-clause-done
 returns-then-is_final-clause-done g c =
     let (loan, turned) = c.loop-done.invariant in
-    let board = turned_final (g.M.Machine.meaning c.args.self.now.question.now) g.M.State.PartialEq.eq (board_of c.args.self.now) c.args.n c.loop-done.done (board_of c.loop-done.self) turned (sym c.is_final.ensures ∙ c.if-is_final.true) in
+    let board = turned_final (g.M.Machine.meaning c.args.self.now.question.now) (g.M.Machine.equal c.args.self.now.question.now) (board_of c.args.self.now) c.args.n c.loop-done.done (board_of c.loop-done.self) turned (sym c.is_final.ensures ∙ c.if-is_final.true) in
     record { loan = loan; board = board }
 
 pub loop-done-preserved : goal.loop-done-preserved
 loop-done-preserved g c =
-    let eq : g.row.M-State.Denot → g.row.M-State.Denot → _ = g.M.State.PartialEq.eq in
+    let eq = g.M.Machine.equal c.args.self.now.question.now in
     let start = c.args.self.now in
     let loop = c.loop-done in
     let next = c.turn.new.self in
@@ -27,5 +27,5 @@ loop-done-preserved g c =
 pub returns-clause-done : goal.returns-clause-done
 returns-clause-done g c =
     let (loan, turned) = c.loop-done.invariant in
-    let board = turned_all (g.M.Machine.meaning c.args.self.now.question.now) g.M.State.PartialEq.eq (board_of c.args.self.now) c.args.n c.loop-done.done (board_of c.loop-done.self) turned c.loop-done-test.false in
+    let board = turned_all (g.M.Machine.meaning c.args.self.now.question.now) (g.M.Machine.equal c.args.self.now.question.now) (board_of c.args.self.now) c.args.n c.loop-done.done (board_of c.loop-done.self) turned c.loop-done-test.false in
     record { loan = loan; board = board }
